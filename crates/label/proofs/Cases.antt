@@ -1,0 +1,33 @@
+-- A case is a message and the lines that its reading is printed as. A table of cases stands if the reading definition computes them all.
+use Prim.Native.Nat.{ℕ}
+use mathlib.Core.Path.{_≡_}
+use mathlib.Core.List.{List, map}
+use Rattle.label.specs.Bytes.{Bytes}
+use Rattle.label.specs.Formats.{edition2005}
+use Rattle.label.specs.Bytes.{control, between, plain, digit, capital, capitalOrDigit, below80}
+use Rattle.label.specs.Limits.{longAs}
+use Rattle.label.specs.Values.{release, payloadType, compression, count}
+use Rattle.label.specs.Elements.{element05, capitalAndMore, afterDigits, element06}
+use Rattle.label.specs.Segments.{tag, tag03, tagged}
+use Rattle.label.specs.Fields.{fewDigits, bothSides, nOfX, yesOrNo, field, fieldsFrom, transport}
+use Rattle.label.specs.Formats.{restByte, textByte, ruleOf}
+use Rattle.label.specs.Written.{parts}
+use Rattle.label.specs.Message.{messageParts, message, rowsOf}
+use Rattle.label.specs.ReadEnvelope.{bodied, plainOrGS, versionOf, readFields, readTransport, readRest, segmentByte, segmentsIn, areSegments, readSegments, readElements, readText, readPayload, readCounted, readBy, readEnvelope}
+use Rattle.label.specs.ReadMessage.{walk, reading}
+use Rattle.label.specs.Answer.{readAnswer, tableAfter, printed}
+use Rattle.label.specs.Part.{partOf}
+use Rattle.label.specs.Rendered.{marksBetween, renderedAfter, rendered}
+use Rattle.label.specs.Writing.{inside, rowsStand, sameItem, composed, writing, writeAnswer, outputAfter}
+
+-- to unfold this is to unfold every definition, so that closed terms compute
+unfoldable pub all-definitions : Unit {0}
+unfolding control between plain digit capital capitalOrDigit below80 longAs release payloadType compression count element05 capitalAndMore afterDigits element06 tag tag03 tagged fewDigits bothSides nOfX yesOrNo field fieldsFrom transport restByte textByte ruleOf parts messageParts message rowsOf bodied plainOrGS versionOf readFields readTransport readRest segmentByte segmentsIn areSegments readSegments readElements readText readPayload readCounted readBy readEnvelope walk reading readAnswer tableAfter printed partOf marksBetween renderedAfter rendered inside rowsStand sameItem composed writing writeAnswer outputAfter
+all-definitions = tt
+
+pub record Case : Type 0 where
+  pub input : Bytes
+  pub lines : List (List ℕ)
+
+abbrev pub Stand : List Case → Type 0
+Stand cases = map (λ c. printed edition2005 (c .input)) cases ≡ map (λ (c : Case). c .lines) cases

@@ -1,0 +1,254 @@
+-- The places of document 01 that can be read in two ways, and messages with several faults at once, whose order decides: what the reading definition
+-- makes of each (docs/DECISIONS.md, the readings). By computation. H is `[)>` RS.
+use Prim.Native.Nat.{ℕ}
+use mathlib.Core.Path.{refl}
+use mathlib.Core.List.{List, [], _∷_, _++_}
+use lib.ListN.{replicate}
+use Rattle.label.specs.Bytes.{Bytes, ascii}
+use Rattle.label.proofs.Cases.{Case, Stand, all-definitions}
+
+-- Reading 1: the place of 3 is where the indicator is due
+
+-- H `0x`
+abbrev oddIndicator : Case
+oddIndicator = record { input = ascii "[)>\u{1e}0x"; lines = (3 ∷ 4 ∷ []) ∷ [] }
+
+-- H `0`
+abbrev halfIndicator : Case
+halfIndicator = record { input = ascii "[)>\u{1e}0"; lines = (3 ∷ 4 ∷ []) ∷ [] }
+
+-- a good envelope, then `0`: 3, not 4
+abbrev halfLateIndicator : Case
+halfLateIndicator = record { input = ascii "[)>\u{1e}06\u{1d}1P7\u{1e}0"; lines = (3 ∷ 11 ∷ []) ∷ [] }
+
+-- Reading 2: the first offset that differs, or the length if cut short
+
+-- `[)<` RS
+abbrev otherHeader : Case
+otherHeader = record { input = ascii "[)<\u{1e}"; lines = (2 ∷ 2 ∷ []) ∷ [] }
+
+-- `[)`
+abbrev cutHeader : Case
+cutHeader = record { input = ascii "[)"; lines = (2 ∷ 2 ∷ []) ∷ [] }
+
+-- `[>`
+abbrev cutOtherHeader : Case
+cutOtherHeader = record { input = ascii "[>"; lines = (2 ∷ 1 ∷ []) ∷ [] }
+
+-- Reading 4: an indicator, then the end
+
+-- H `08`
+abbrev end08 : Case
+end08 = record { input = ascii "[)>\u{1e}08"; lines = (6 ∷ 4 ∷ []) ∷ [] }
+
+-- H `01`
+abbrev end01 : Case
+end01 = record { input = ascii "[)>\u{1e}01"; lines = (8 ∷ 4 ∷ []) ∷ [] }
+
+-- H `03`
+abbrev end03 : Case
+end03 = record { input = ascii "[)>\u{1e}03"; lines = (8 ∷ 4 ∷ []) ∷ [] }
+
+-- H `05`
+abbrev end05 : Case
+end05 = record { input = ascii "[)>\u{1e}05"; lines = (8 ∷ 4 ∷ []) ∷ [] }
+
+-- H `09`
+abbrev end09 : Case
+end09 = record { input = ascii "[)>\u{1e}09"; lines = (8 ∷ 4 ∷ []) ∷ [] }
+
+-- H `07`: it has no header to cut
+abbrev end07 : Case
+end07 = record { input = ascii "[)>\u{1e}07"; lines = (12 ∷ 4 ∷ []) ∷ [] }
+
+-- H `02`
+abbrev end02 : Case
+end02 = record { input = ascii "[)>\u{1e}02"; lines = (11 ∷ 4 ∷ []) ∷ [] }
+
+-- Reading 5 and 6: 7 before 8; a fault of a later envelope has that envelope's place, and comes before 13
+
+-- a second 01, with no header
+abbrev secondTransport : Case
+secondTransport = record { input = ascii "[)>\u{1e}01\u{1d}0252001\u{1d}840\u{1d}001\u{1d}1Z004951\u{1d}UPSN\u{1e}01\u{1e}\u{4}"; lines = (7 ∷ 37 ∷ []) ∷ [] }
+
+-- 02 after an envelope
+abbrev lateRest : Case
+lateRest = record { input = ascii "[)>\u{1e}06\u{1d}1P7\u{1e}02X"; lines = (7 ∷ 11 ∷ []) ∷ [] }
+
+-- a later envelope without its header
+abbrev lateHeader : Case
+lateHeader = record { input = ascii "[)>\u{1e}06\u{1d}1P7\u{1e}06\u{1e}\u{4}"; lines = (8 ∷ 11 ∷ []) ∷ [] }
+
+-- Reading 7: format 02 takes all the rest
+
+-- H `02` RS EOT
+abbrev restWithRS : Case
+restWithRS = record { input = ascii "[)>\u{1e}02\u{1e}\u{4}"; lines = (10 ∷ 4 ∷ []) ∷ [] }
+
+-- H `02X` EOT
+abbrev restWithEOT : Case
+restWithEOT = record { input = ascii "[)>\u{1e}02X\u{4}"; lines = (10 ∷ 4 ∷ []) ∷ [] }
+
+-- H `02` GS
+abbrev restWithGS : Case
+restWithGS = record { input = ascii "[)>\u{1e}02\u{1d}"; lines = (0 ∷ 1 ∷ 2 ∷ []) ∷ (1 ∷ 2 ∷ 4 ∷ 2 ∷ []) ∷ (7 ∷ 2 ∷ 6 ∷ 1 ∷ []) ∷ [] }
+
+-- Reading 8 and 9: versions, and what must be there
+
+-- version 06
+abbrev version06 : Case
+version06 = record { input = ascii "[)>\u{1e}01\u{1d}0652001\u{1d}840\u{1d}001\u{1d}1Z004951\u{1d}UPSN\u{1e}\u{4}"; lines = (8 ∷ 4 ∷ []) ∷ [] }
+
+-- version 02 with an empty postal code
+abbrev noPostalCode02 : Case
+noPostalCode02 = record { input = ascii "[)>\u{1e}01\u{1d}02\u{1d}840\u{1d}001\u{1d}1Z\u{1d}UP\u{1e}\u{4}"; lines = (0 ∷ 1 ∷ 7 ∷ []) ∷ (1 ∷ 1 ∷ 4 ∷ 2 ∷ []) ∷ (2 ∷ 1 ∷ 7 ∷ 2 ∷ []) ∷ (3 ∷ 1 ∷ 9 ∷ 0 ∷ []) ∷ (3 ∷ 1 ∷ 10 ∷ 3 ∷ []) ∷ (3 ∷ 1 ∷ 14 ∷ 3 ∷ []) ∷ (3 ∷ 1 ∷ 18 ∷ 2 ∷ []) ∷ (3 ∷ 1 ∷ 21 ∷ 2 ∷ []) ∷ [] }
+
+-- version 96 with an empty postal code
+abbrev noPostalCode96 : Case
+noPostalCode96 = record { input = ascii "[)>\u{1e}01\u{1d}96\u{1d}840\u{1d}001\u{1d}1Z\u{1d}UP\u{1e}\u{4}"; lines = (11 ∷ 4 ∷ []) ∷ [] }
+
+-- four fields
+abbrev fourFields : Case
+fourFields = record { input = ascii "[)>\u{1e}01\u{1d}02\u{1d}840\u{1d}001\u{1d}1Z\u{1e}\u{4}"; lines = (11 ∷ 4 ∷ []) ∷ [] }
+
+-- an empty sixth field that is the last
+abbrev emptyLastField : Case
+emptyLastField = record { input = ascii "[)>\u{1e}01\u{1d}02\u{1d}840\u{1d}001\u{1d}1Z\u{1d}UP\u{1d}\u{1e}\u{4}"; lines = (11 ∷ 4 ∷ []) ∷ [] }
+
+-- fields 6 to 8 empty, field 9 `1/1`
+abbrev emptyLaterFields : Case
+emptyLaterFields = record { input = ascii "[)>\u{1e}01\u{1d}02\u{1d}840\u{1d}001\u{1d}1Z\u{1d}UP\u{1d}\u{1d}\u{1d}\u{1d}1/1\u{1e}\u{4}"; lines = (0 ∷ 1 ∷ 11 ∷ []) ∷ (1 ∷ 1 ∷ 4 ∷ 2 ∷ []) ∷ (2 ∷ 1 ∷ 7 ∷ 2 ∷ []) ∷ (3 ∷ 1 ∷ 9 ∷ 0 ∷ []) ∷ (3 ∷ 1 ∷ 10 ∷ 3 ∷ []) ∷ (3 ∷ 1 ∷ 14 ∷ 3 ∷ []) ∷ (3 ∷ 1 ∷ 18 ∷ 2 ∷ []) ∷ (3 ∷ 1 ∷ 21 ∷ 2 ∷ []) ∷ (3 ∷ 1 ∷ 24 ∷ 0 ∷ []) ∷ (3 ∷ 1 ∷ 25 ∷ 0 ∷ []) ∷ (3 ∷ 1 ∷ 26 ∷ 0 ∷ []) ∷ (3 ∷ 1 ∷ 27 ∷ 3 ∷ []) ∷ [] }
+
+-- version 02 with fifteen fields
+abbrev name02 : Case
+name02 = record { input = ascii "[)>\u{1e}01\u{1d}02\u{1d}840\u{1d}1\u{1d}1\u{1d}UP\u{1d}\u{1d}\u{1d}\u{1d}\u{1d}\u{1d}\u{1d}\u{1d}\u{1d}\u{1d}A\u{1e}\u{4}"; lines = (0 ∷ 1 ∷ 17 ∷ []) ∷ (1 ∷ 1 ∷ 4 ∷ 2 ∷ []) ∷ (2 ∷ 1 ∷ 7 ∷ 2 ∷ []) ∷ (3 ∷ 1 ∷ 9 ∷ 0 ∷ []) ∷ (3 ∷ 1 ∷ 10 ∷ 3 ∷ []) ∷ (3 ∷ 1 ∷ 14 ∷ 1 ∷ []) ∷ (3 ∷ 1 ∷ 16 ∷ 1 ∷ []) ∷ (3 ∷ 1 ∷ 18 ∷ 2 ∷ []) ∷ (3 ∷ 1 ∷ 21 ∷ 0 ∷ []) ∷ (3 ∷ 1 ∷ 22 ∷ 0 ∷ []) ∷ (3 ∷ 1 ∷ 23 ∷ 0 ∷ []) ∷ (3 ∷ 1 ∷ 24 ∷ 0 ∷ []) ∷ (3 ∷ 1 ∷ 25 ∷ 0 ∷ []) ∷ (3 ∷ 1 ∷ 26 ∷ 0 ∷ []) ∷ (3 ∷ 1 ∷ 27 ∷ 0 ∷ []) ∷ (3 ∷ 1 ∷ 28 ∷ 0 ∷ []) ∷ (3 ∷ 1 ∷ 29 ∷ 0 ∷ []) ∷ (3 ∷ 1 ∷ 30 ∷ 1 ∷ []) ∷ [] }
+
+-- version 96 with fifteen fields
+abbrev name96 : Case
+name96 = record { input = ascii "[)>\u{1e}01\u{1d}96ABC\u{1d}840\u{1d}1\u{1d}1\u{1d}UP\u{1d}\u{1d}\u{1d}\u{1d}\u{1d}\u{1d}\u{1d}\u{1d}\u{1d}\u{1d}A\u{1e}\u{4}"; lines = (11 ∷ 4 ∷ []) ∷ [] }
+
+-- Reading 10: empty bodies
+
+-- format 01
+abbrev emptyFields : Case
+emptyFields = record { input = ascii "[)>\u{1e}01\u{1d}02\u{1e}\u{4}"; lines = (11 ∷ 4 ∷ []) ∷ [] }
+
+-- format 04
+abbrev emptySegments : Case
+emptySegments = record { input = ascii "[)>\u{1e}04004010\u{1c}\u{1d}\u{1f}\u{1e}\u{4}"; lines = (11 ∷ 4 ∷ []) ∷ [] }
+
+-- format 06
+abbrev emptyElements : Case
+emptyElements = record { input = ascii "[)>\u{1e}06\u{1d}\u{1e}\u{4}"; lines = (11 ∷ 4 ∷ []) ∷ [] }
+
+-- format 09 with count zero
+abbrev emptyPayload : Case
+emptyPayload = record { input = ascii "[)>\u{1e}09\u{1d}A\u{1d}\u{1d}0\u{1d}\u{1e}\u{4}"; lines = (0 ∷ 1 ∷ 5 ∷ []) ∷ (1 ∷ 9 ∷ 4 ∷ 2 ∷ []) ∷ (2 ∷ 9 ∷ 7 ∷ 1 ∷ []) ∷ (2 ∷ 9 ∷ 9 ∷ 0 ∷ []) ∷ (2 ∷ 9 ∷ 10 ∷ 1 ∷ []) ∷ (7 ∷ 9 ∷ 12 ∷ 0 ∷ []) ∷ [] }
+
+-- Reading 11: FS ends a segment; `BIN`
+
+-- `N1` FS FS
+abbrev emptySegment : Case
+emptySegment = record { input = ascii "[)>\u{1e}03004010\u{1c}\u{1d}\u{1f}N1\u{1c}\u{1c}\u{1e}\u{4}"; lines = (11 ∷ 4 ∷ []) ∷ [] }
+
+-- `N1` without its FS
+abbrev unendedSegment : Case
+unendedSegment = record { input = ascii "[)>\u{1e}03004010\u{1c}\u{1d}\u{1f}N1\u{1e}\u{4}"; lines = (11 ∷ 4 ∷ []) ∷ [] }
+
+-- `BIN` in 03
+abbrev binary03 : Case
+binary03 = record { input = ascii "[)>\u{1e}03004010\u{1c}\u{1d}\u{1f}BIN\u{1c}\u{1e}\u{4}"; lines = (11 ∷ 4 ∷ []) ∷ [] }
+
+-- `BIN` in 04
+abbrev binary04 : Case
+binary04 = record { input = ascii "[)>\u{1e}04004010\u{1c}\u{1d}\u{1f}BIN\u{1c}\u{1e}\u{4}"; lines = (0 ∷ 1 ∷ 3 ∷ []) ∷ (1 ∷ 4 ∷ 4 ∷ 2 ∷ []) ∷ (2 ∷ 4 ∷ 6 ∷ 6 ∷ []) ∷ (4 ∷ 4 ∷ 15 ∷ 3 ∷ []) ∷ [] }
+
+-- Reading 12 and 13: permitted bytes go by the format; a bad byte in a header is 8; 12, then 10, then 11
+
+-- a letter in the country
+abbrev letterInCountry : Case
+letterInCountry = record { input = ascii "[)>\u{1e}01\u{1d}02\u{1d}84A\u{1d}001\u{1d}1Z\u{1d}UP\u{1e}\u{4}"; lines = (11 ∷ 4 ∷ []) ∷ [] }
+
+-- 7F in the country
+abbrev deleteInCountry : Case
+deleteInCountry = record { input = ascii "[)>\u{1e}01\u{1d}02\u{1d}84\u{7f}\u{1d}001\u{1d}1Z\u{1d}UP\u{1e}\u{4}"; lines = (10 ∷ 4 ∷ []) ∷ [] }
+
+-- US in a tag
+abbrev taggedUS : Case
+taggedUS = record { input = ascii "[)>\u{1e}03004010\u{1c}\u{1d}\u{1f}N1\u{1f}A\u{1c}\u{1e}\u{4}"; lines = (11 ∷ 4 ∷ []) ∷ [] }
+
+-- 7F where GS is due
+abbrev deleteInHeader : Case
+deleteInHeader = record { input = ascii "[)>\u{1e}06\u{7f}Q3\u{1e}\u{4}"; lines = (8 ∷ 4 ∷ []) ∷ [] }
+
+-- no RS, a byte not permitted, a rule broken
+abbrev noRS : Case
+noRS = record { input = ascii "[)>\u{1e}06\u{1d}\u{7f}"; lines = (12 ∷ 4 ∷ []) ∷ [] }
+
+-- a byte not permitted and a rule broken
+abbrev notPermitted : Case
+notPermitted = record { input = ascii "[)>\u{1e}06\u{1d}\u{7f}\u{1e}\u{4}"; lines = (10 ∷ 4 ∷ []) ∷ [] }
+
+-- EOT in a text body
+abbrev trailerInText : Case
+trailerInText = record { input = ascii "[)>\u{1e}07A\u{4}\u{1e}\u{4}"; lines = (10 ∷ 4 ∷ []) ∷ [] }
+
+-- Reading 14: counts
+
+-- count `03`
+abbrev leadingZero : Case
+leadingZero = record { input = ascii "[)>\u{1e}09\u{1d}A\u{1d}\u{1d}03\u{1d}\u{1e}\u{4}\u{1d}\u{1e}\u{4}"; lines = (0 ∷ 1 ∷ 5 ∷ []) ∷ (1 ∷ 9 ∷ 4 ∷ 2 ∷ []) ∷ (2 ∷ 9 ∷ 7 ∷ 1 ∷ []) ∷ (2 ∷ 9 ∷ 9 ∷ 0 ∷ []) ∷ (2 ∷ 9 ∷ 10 ∷ 2 ∷ []) ∷ (7 ∷ 9 ∷ 13 ∷ 3 ∷ []) ∷ [] }
+
+-- fifteen digits, far too many bytes
+abbrev fifteenDigits : Case
+fifteenDigits = record { input = ascii "[)>\u{1e}09\u{1d}A\u{1d}\u{1d}999999999999999\u{1d}\u{1e}\u{4}"; lines = (9 ∷ 4 ∷ []) ∷ [] }
+
+-- sixteen digits
+abbrev sixteenDigits : Case
+sixteenDigits = record { input = ascii "[)>\u{1e}09\u{1d}A\u{1d}\u{1d}0000000000000000\u{1d}\u{1e}\u{4}"; lines = (8 ∷ 4 ∷ []) ∷ [] }
+
+-- a payload of three bytes where RS stands behind two
+abbrev rsTooEarly : Case
+rsTooEarly = record { input = ascii "[)>\u{1e}09\u{1d}A\u{1d}\u{1d}3\u{1d}AB\u{1e}\u{4}"; lines = (9 ∷ 4 ∷ []) ∷ [] }
+
+abbrev pub readings : List Case
+readings =
+    oddIndicator ∷ halfIndicator ∷ halfLateIndicator
+    ∷ otherHeader ∷ cutHeader ∷ cutOtherHeader
+    ∷ end08 ∷ end01 ∷ end03 ∷ end05 ∷ end09 ∷ end07 ∷ end02
+    ∷ secondTransport ∷ lateRest ∷ lateHeader
+    ∷ restWithRS ∷ restWithEOT ∷ restWithGS
+    ∷ version06 ∷ noPostalCode02 ∷ noPostalCode96 ∷ fourFields ∷ emptyLastField ∷ emptyLaterFields ∷ name02 ∷ name96
+    ∷ emptyFields ∷ emptySegments ∷ emptyElements ∷ emptyPayload
+    ∷ emptySegment ∷ unendedSegment ∷ binary03 ∷ binary04
+    ∷ letterInCountry ∷ deleteInCountry ∷ taggedUS ∷ deleteInHeader ∷ noRS ∷ notPermitted ∷ trailerInText
+    ∷ leadingZero ∷ fifteenDigits ∷ sixteenDigits ∷ rsTooEarly
+    ∷ []
+
+pub the-readings : Stand readings
+unfolding all-definitions
+the-readings = refl
+
+-- Limits: a message too long is 1 whatever it is; 13 comes after every fault of an envelope and of the end
+
+abbrev concatenated : List Bytes → Bytes
+concatenated [] = []
+concatenated (bs ∷ rest) = bs ++ concatenated rest
+
+-- H `06`, then n elements, RS and what follows
+abbrev manyElements : ℕ → Bytes → Bytes
+manyElements n after = ascii "[)>\u{1e}06" ++ (concatenated (replicate n (ascii "\u{1d}Q3")) ++ (ascii "\u{1e}" ++ after))
+
+abbrev pub limits : List Case
+limits =
+    record { input = replicate 4097 0x41; lines = (1 ∷ 4096 ∷ []) ∷ [] }
+    ∷ record { input = replicate 4096 0x41; lines = (2 ∷ 0 ∷ []) ∷ [] }
+    ∷ record { input = manyElements 1024 (ascii "\u{4}"); lines = (13 ∷ 0 ∷ []) ∷ [] }
+    ∷ record { input = manyElements 1024 []; lines = (4 ∷ 3079 ∷ []) ∷ [] }
+    ∷ record { input = manyElements 1024 (ascii "\u{4}\u{4}"); lines = (5 ∷ 3080 ∷ []) ∷ [] }
+    ∷ record { input = manyElements 1024 (ascii "08"); lines = (6 ∷ 3079 ∷ []) ∷ [] }
+    ∷ []
+
+pub the-limits : Stand limits
+unfolding all-definitions
+the-limits = refl

@@ -1,0 +1,132 @@
+-- The thirteen cases of 01's table 'Proved', as one statement about the reading definition; and for those that are accepted, that the writing side
+-- has them too. All by computation. H is `[)>` RS.
+use Prim.Native.Nat.{ℕ}
+use mathlib.Core.Path.{_≡_, refl}
+use mathlib.Core.Bool.{true}
+use mathlib.Core.List.{List, [], _∷_, map, tail}
+use lib.ListN.{length}
+use lib.Dec.{T, leb, leb→le}
+use Rattle.label.specs.Bytes.{Bytes, ascii, EOT, GS, RS}
+use Rattle.label.specs.Limits.{longest, mostRows}
+use Rattle.label.specs.Elements.{element06}
+use Rattle.label.specs.Segments.{tag03}
+use Rattle.label.specs.Formats.{edition2005, restByte, textByte}
+use Rattle.label.specs.Layout.{numbers}
+use Rattle.label.specs.Envelope.{Envelope, wholeRest, segments, elements, text, counted, Within}
+use Rattle.label.specs.Message.{message, rowsOf, Each, restOnlyAlone, Good}
+use Rattle.label.proofs.Cases.{Case, Stand, all-definitions}
+
+-- the message printed under 'Cartons to try': H `06` GS `1P7` GS `Q3` RS EOT
+abbrev pub carton : Case
+carton = record { input = ascii "[)>\u{1e}06\u{1d}1P7\u{1d}Q3\u{1e}\u{4}"; lines = (0 ∷ 1 ∷ 3 ∷ []) ∷ (1 ∷ 6 ∷ 4 ∷ 2 ∷ []) ∷ (3 ∷ 6 ∷ 7 ∷ 3 ∷ []) ∷ (3 ∷ 6 ∷ 11 ∷ 2 ∷ []) ∷ [] }
+
+-- nothing
+abbrev pub nothing : Case
+nothing = record { input = ascii ""; lines = (2 ∷ 0 ∷ []) ∷ [] }
+
+-- H EOT
+abbrev pub noEnvelope : Case
+noEnvelope = record { input = ascii "[)>\u{1e}\u{4}"; lines = (3 ∷ 4 ∷ []) ∷ [] }
+
+-- H `07` RS EOT
+abbrev pub emptyText : Case
+emptyText = record { input = ascii "[)>\u{1e}07\u{1e}\u{4}"; lines = (0 ∷ 1 ∷ 2 ∷ []) ∷ (1 ∷ 7 ∷ 4 ∷ 2 ∷ []) ∷ (7 ∷ 7 ∷ 6 ∷ 0 ∷ []) ∷ [] }
+
+-- the first message less its EOT
+abbrev pub noTrailer : Case
+noTrailer = record { input = ascii "[)>\u{1e}06\u{1d}1P7\u{1d}Q3\u{1e}"; lines = (4 ∷ 14 ∷ []) ∷ [] }
+
+-- the first message and one byte
+abbrev pub oneByteMore : Case
+oneByteMore = record { input = ascii "[)>\u{1e}06\u{1d}1P7\u{1d}Q3\u{1e}\u{4}A"; lines = (5 ∷ 15 ∷ []) ∷ [] }
+
+-- H `08` RS EOT
+abbrev pub format08 : Case
+format08 = record { input = ascii "[)>\u{1e}08\u{1e}\u{4}"; lines = (6 ∷ 4 ∷ []) ∷ [] }
+
+-- H `06` GS `1P7` RS `01` RS EOT
+abbrev pub lateTransport : Case
+lateTransport = record { input = ascii "[)>\u{1e}06\u{1d}1P7\u{1e}01\u{1e}\u{4}"; lines = (7 ∷ 11 ∷ []) ∷ [] }
+
+-- H `09` GS `A` GS GS `3` GS RS EOT GS RS EOT
+abbrev pub payload : Case
+payload = record { input = ascii "[)>\u{1e}09\u{1d}A\u{1d}\u{1d}3\u{1d}\u{1e}\u{4}\u{1d}\u{1e}\u{4}"; lines = (0 ∷ 1 ∷ 5 ∷ []) ∷ (1 ∷ 9 ∷ 4 ∷ 2 ∷ []) ∷ (2 ∷ 9 ∷ 7 ∷ 1 ∷ []) ∷ (2 ∷ 9 ∷ 9 ∷ 0 ∷ []) ∷ (2 ∷ 9 ∷ 10 ∷ 1 ∷ []) ∷ (7 ∷ 9 ∷ 12 ∷ 3 ∷ []) ∷ [] }
+
+-- the same with count `2`
+abbrev pub shortCount : Case
+shortCount = record { input = ascii "[)>\u{1e}09\u{1d}A\u{1d}\u{1d}2\u{1d}\u{1e}\u{4}\u{1d}\u{1e}\u{4}"; lines = (9 ∷ 4 ∷ []) ∷ [] }
+
+-- H `06` GS `Q3` GS RS EOT
+abbrev pub emptyElement : Case
+emptyElement = record { input = ascii "[)>\u{1e}06\u{1d}Q3\u{1d}\u{1e}\u{4}"; lines = (11 ∷ 4 ∷ []) ∷ [] }
+
+-- H `03004010` FS GS US `N1` GS `A` US `B` FS RS EOT
+abbrev pub oneSegment : Case
+oneSegment = record { input = ascii "[)>\u{1e}03004010\u{1c}\u{1d}\u{1f}N1\u{1d}A\u{1f}B\u{1c}\u{1e}\u{4}"; lines = (0 ∷ 1 ∷ 5 ∷ []) ∷ (1 ∷ 3 ∷ 4 ∷ 2 ∷ []) ∷ (2 ∷ 3 ∷ 6 ∷ 6 ∷ []) ∷ (4 ∷ 3 ∷ 15 ∷ 2 ∷ []) ∷ (5 ∷ 3 ∷ 18 ∷ 1 ∷ []) ∷ (6 ∷ 3 ∷ 20 ∷ 1 ∷ []) ∷ [] }
+
+-- H `02X`
+abbrev pub allTheRest : Case
+allTheRest = record { input = ascii "[)>\u{1e}02X"; lines = (0 ∷ 1 ∷ 2 ∷ []) ∷ (1 ∷ 2 ∷ 4 ∷ 2 ∷ []) ∷ (7 ∷ 2 ∷ 6 ∷ 1 ∷ []) ∷ [] }
+
+-- the table
+abbrev pub thirteen : List Case
+thirteen =
+    carton
+    ∷ nothing
+    ∷ noEnvelope
+    ∷ emptyText
+    ∷ noTrailer
+    ∷ oneByteMore
+    ∷ format08
+    ∷ lateTransport
+    ∷ payload
+    ∷ shortCount
+    ∷ emptyElement
+    ∷ oneSegment
+    ∷ allTheRest
+    ∷ []
+
+pub the-thirteen : Stand thirteen
+unfolding all-definitions
+the-thirteen = refl
+
+-- Of the accepted cases: the list of envelopes, written by hand, with which the message is good and has the table's rows
+record Example : Type 0 where
+  case : Case
+  envelopes : List Envelope
+
+abbrev WrittenSo : Example → Type 0
+WrittenSo x = Good edition2005 (x .case .input) (x .envelopes) × (map numbers (rowsOf (x .envelopes)) ≡ tail (x .case .lines))
+
+abbrev accepted : List Example
+accepted =
+    record { case = carton; envelopes = elements 6 (ascii "1P7" ∷ ascii "Q3" ∷ []) ∷ [] }
+    ∷ record { case = emptyText; envelopes = text 7 [] ∷ [] }
+    ∷ record { case = payload; envelopes = counted 9 (ascii "A") [] (ascii "3") (RS ∷ EOT ∷ GS ∷ []) ∷ [] }
+    ∷ record { case = oneSegment; envelopes = segments 3 (ascii "004010") (((ascii "N1" ∷ []) ∷ (ascii "A" ∷ ascii "B" ∷ []) ∷ []) ∷ []) ∷ [] }
+    ∷ record { case = allTheRest; envelopes = wholeRest 2 (ascii "X") ∷ [] }
+    ∷ []
+
+-- one envelope, within its rules: what is left of Good computes
+good-alone : (m : Bytes) (e : Envelope) → Within edition2005 e → restOnlyAlone (e ∷ []) ≡ true → T (leb (length m) longest) → T (leb (length (rowsOf (e ∷ []))) mostRows) → message (e ∷ []) ≡ m → Good edition2005 m (e ∷ [])
+good-alone m e w alone short few bytes =
+    record { oneOrMore = refl; within = (w, tt); onlyFirst = refl; onlyAlone = alone; notTooLong = leb→le _ _ short; notTooMany = leb→le _ _ few; writesOut = bytes }
+
+pub the-accepted-are-written : Each WrittenSo accepted
+unfolding all-definitions
+the-accepted-are-written = (
+  (good-alone _ _ (record { isElement = element06; known = refl; oneOrMore = refl; plainBytes = refl; asStated = refl }) refl tt tt refl, refl),
+  (
+    (good-alone _ _ (record { permitted = textByte; known = refl; permittedBytes = refl }) refl tt tt refl, refl),
+    (
+      (good-alone _ _ (record { known = refl; isType = refl; isCompression = refl; isCount = refl; counts = refl }) refl tt tt refl, refl),
+      (
+        (good-alone _ _ (record { isTag = tag03; known = refl; sixBytes = refl; oneOrMore = refl; plainBytes = refl; allTagged = refl }) refl tt tt refl, refl),
+        (
+          (good-alone _ _ (record { permitted = restByte; known = refl; notEmpty = refl; permittedBytes = refl }) refl tt tt refl, refl),
+          tt,
+        ),
+      ),
+    ),
+  ),
+)

@@ -1,0 +1,60 @@
+-- Which formats there are, and what each one's body is made of (01, Envelope rules).
+use Prim.Native.Nat.{ℕ}
+use mathlib.Core.Bool.{Bool, not, _&&_, cond}
+use mathlib.Core.List.{List, [], _∷_}
+use lib.Dec.{eqb}
+use Rattle.label.specs.Bytes.{Bytes, EOT, RS, control, below80}
+use Rattle.label.specs.Elements.{element05, element06}
+use Rattle.label.specs.Segments.{tag, tag03}
+
+infix 80 _is_
+-- 02: below 80, no RS, no EOT
+unfoldable pub restByte : ℕ → Bool
+restByte b = below80 b && not (eqb b RS) && not (eqb b EOT)
+
+-- 07: below 80, none of the five control bytes
+unfoldable pub textByte : ℕ → Bool
+textByte b = below80 b && not (control b)
+
+-- which formats are in force
+pub data Edition : Type 0 where
+  edition2005 : Edition
+
+-- what a body is made of: transport fields, all the rest of the message, segments, elements, text, or a counted payload; with the rule
+-- for a byte, a tag or an element where formats differ in it
+pub data Rule : Type 0 where
+  asFields : Rule
+  asRest : (ℕ → Bool) → Rule
+  asSegments : (Bytes → Bool) → Rule
+  asElements : (Bytes → Bool) → Rule
+  asText : (ℕ → Bool) → Rule
+  asCounted : Rule
+  unknown : Rule
+
+pub record Format : Type 0 where
+  pub number : ℕ
+  pub rule : Rule
+
+abbrev pub _is_ : ℕ → Rule → Format
+n is r = record { number = n; rule = r }
+
+-- the list of formats
+abbrev pub formats : Edition → List Format
+formats edition2005 =
+    1 is asFields
+    ∷ 2 is asRest restByte
+    ∷ 3 is asSegments tag03
+    ∷ 4 is asSegments tag
+    ∷ 5 is asElements element05
+    ∷ 6 is asElements element06
+    ∷ 7 is asText textByte
+    ∷ 9 is asCounted
+    ∷ []
+
+abbrev pub ruleIn : ℕ → List Format → Rule
+ruleIn n [] = unknown
+ruleIn n (f ∷ fs) = cond (eqb n (f .number)) (f .rule) (ruleIn n fs)
+
+-- a format's rule, unknown where the edition has no such format
+unfoldable pub ruleOf : Edition → ℕ → Rule
+ruleOf edition n = ruleIn n (formats edition)

@@ -1,0 +1,141 @@
+-- How one envelope is read: what is answered where an indicator is due (01, Numbers for the receiving desk). Each refusal here has that offset as its
+-- place. In a definition the refusals stand in the paper's order: 3, 6, 7, 8, then 9, or 12, 10 and 11, or for format 02 11 and 10.
+use Prim.Native.Nat.{ℕ, _+_}
+use mathlib.Core.Bool.{Bool, true, false, not, _&&_, _||_, cond}
+use mathlib.Core.Option.{Option, none, some}
+use mathlib.Core.List.{List, [], _∷_, map}
+use lib.ListN.{length, getD, take, drop}
+use lib.Dec.{ltb, eqb}
+use Rattle.label.specs.declared.Reason.{Reason}
+use Rattle.label.specs.declared.Reason.the-variants.{NoIndicator, UnknownFormat, NotFirst, BadFormatHeader, PayloadDoesNotFit, ByteNotPermitted, BodyBreaksRules, NoRecordSeparator}
+use Rattle.label.specs.Bytes.{Bytes, FS, GS, RS, US, plain, digit, every, isEmpty, sameBytes}
+use Rattle.label.specs.Pieces.{pieces, lastIsEmpty, withoutLast, Cut, found, absent, cut}
+use Rattle.label.specs.Values.{Version, version02, version96, versionDigits, releaseLength, release, payloadType, compression, count, value}
+use Rattle.label.specs.Segments.{Segment, tagged}
+use Rattle.label.specs.Fields.{transport}
+use Rattle.label.specs.Formats.{Edition, Rule, ruleOf, asFields, asRest, asSegments, asElements, asText, asCounted, unknown}
+use Rattle.label.specs.Envelope.{Envelope, fields, wholeRest, segments, elements, text, counted}
+
+-- an envelope and what follows its RS; an envelope that takes all the rest; or a refusal
+pub data Step : Type 0 where
+  closed : Envelope → Bytes → Step
+  whole : Envelope → Step
+  refuse : Reason → Step
+
+-- refused unless a test holds
+abbrev pub must : Bool → Reason → Step → Step
+must true reason next = next
+must false reason next = refuse reason
+
+-- Headers: 8
+
+-- the bytes are to begin with those of a header; then what follows
+abbrev pub opened : Bytes → Bytes → (Bytes → Step) → Step
+opened [] bs next = next bs
+opened (h ∷ hs) [] next = refuse BadFormatHeader
+opened (h ∷ hs) (b ∷ bs) next = must (eqb b h) BadFormatHeader (opened hs bs next)
+
+-- a header value runs to the next GS and is to pass a test; then the value and what follows the GS
+abbrev pub valuedAt : (Bytes → Bool) → (Bytes → Bytes → Step) → Cut → Step
+valuedAt test next absent = refuse BadFormatHeader
+valuedAt test next (found v bs) = must (test v) BadFormatHeader (next v bs)
+
+abbrev pub valued : (Bytes → Bool) → Bytes → (Bytes → Bytes → Step) → Step
+valued test bs next = valuedAt test next (cut GS bs)
+
+-- Bodies that run to the first RS: 12, 10, 11
+
+abbrev pub bodyAt : (ℕ → Bool) → (Bytes → Bool) → (Bytes → Envelope) → Cut → Step
+bodyAt permitted rules made absent = refuse NoRecordSeparator
+bodyAt permitted rules made (found body left) =
+    must (every permitted body) ByteNotPermitted
+    (must (rules body) BodyBreaksRules
+    (closed (made body) left))
+
+-- the body's permitted bytes, its rules, and the envelope that it makes
+unfoldable pub bodied : (ℕ → Bool) → (Bytes → Bool) → (Bytes → Envelope) → Bytes → Step
+bodied permitted rules made bs = bodyAt permitted rules made (cut RS bs)
+
+-- Formats
+
+unfoldable pub plainOrGS : ℕ → Bool
+plainOrGS b = plain b || eqb b GS
+
+-- 01: GS, then `02` or `96`, then fields split by GS
+unfoldable pub versionOf : Bytes → Option Version
+versionOf bs =
+    cond (sameBytes bs (versionDigits version02)) (some version02)
+    (cond (sameBytes bs (versionDigits version96)) (some version96)
+    none)
+
+unfoldable pub readFields : Option Version → Bytes → Step
+readFields none bs = refuse BadFormatHeader
+readFields (some v) bs = bodied plainOrGS (λ body. transport v (pieces GS body)) (λ body. fields v (pieces GS body)) bs
+
+unfoldable pub readTransport : Bytes → Step
+readTransport bs = opened (GS ∷ []) bs λ after. readFields (versionOf (take 2 after)) (drop 2 after)
+
+-- 02: all the rest
+unfoldable pub readRest : (ℕ → Bool) → ℕ → Bytes → Step
+readRest permitted f bs =
+    must (not (isEmpty bs)) BodyBreaksRules
+    (must (every permitted bs) ByteNotPermitted
+    (whole (wholeRest f bs)))
+
+-- 03, 04: six bytes, FS GS US, then segments, each ended by FS, their elements split by GS, and those by US
+unfoldable pub segmentByte : ℕ → Bool
+segmentByte b = plain b || eqb b FS || eqb b GS || eqb b US
+
+unfoldable pub segmentsIn : Bytes → List Segment
+segmentsIn body = map (λ segment. map (pieces US) (pieces GS segment)) (withoutLast (pieces FS body))
+
+unfoldable pub areSegments : (Bytes → Bool) → Bytes → Bool
+areSegments isTag body = lastIsEmpty (pieces FS body) && not (isEmpty (segmentsIn body)) && every (tagged isTag) (segmentsIn body)
+
+unfoldable pub readSegments : (Bytes → Bool) → ℕ → Bytes → Step
+readSegments isTag f bs =
+    must (release (take releaseLength bs)) BadFormatHeader
+    (opened (FS ∷ GS ∷ US ∷ []) (drop releaseLength bs) λ after.
+    bodied segmentByte (areSegments isTag) (λ body. segments f (take releaseLength bs) (segmentsIn body)) after)
+
+-- 05, 06: GS, then elements split by GS
+unfoldable pub readElements : (Bytes → Bool) → ℕ → Bytes → Step
+readElements isElement f bs =
+    opened (GS ∷ []) bs λ after.
+    bodied plainOrGS (λ body. every isElement (pieces GS body)) (λ body. elements f (pieces GS body)) after
+
+-- 07: text
+unfoldable pub readText : (ℕ → Bool) → ℕ → Bytes → Step
+readText permitted f bs = bodied permitted (λ body. true) (text f) bs
+
+-- 09: the payload and its RS are to fit, and the byte after the payload is RS; nothing is looked for inside the payload
+unfoldable pub readPayload : ℕ → (Bytes → Envelope) → Bytes → Step
+readPayload n made bs = must (ltb n (length bs) && eqb (getD bs n 0) RS) PayloadDoesNotFit (closed (made (take n bs)) (drop (n + 1) bs))
+
+-- 09: GS type GS compression GS count GS, then the payload
+unfoldable pub readCounted : ℕ → Bytes → Step
+readCounted f bs =
+    opened (GS ∷ []) bs λ bs₁.
+    valued payloadType bs₁ λ t bs₂.
+    valued compression bs₂ λ c bs₃.
+    valued count bs₃ λ n bs₄.
+    readPayload (value n) (counted f t c n) bs₄
+
+-- Any format: 6, and 7 where it isn't the first envelope, before its header
+
+unfoldable pub readBy : Rule → Bool → ℕ → Bytes → Step
+readBy unknown first f bs = refuse UnknownFormat
+readBy asFields first f bs = must first NotFirst (readTransport bs)
+readBy (asRest permitted) first f bs = must first NotFirst (readRest permitted f bs)
+readBy (asSegments isTag) first f bs = readSegments isTag f bs
+readBy (asElements isElement) first f bs = readElements isElement f bs
+readBy (asText permitted) first f bs = readText permitted f bs
+readBy asCounted first f bs = readCounted f bs
+
+-- an indicator, two digits, is due: 3; then its format
+unfoldable pub readEnvelope : Edition → Bool → Bytes → Step
+readEnvelope edition first [] = refuse NoIndicator
+readEnvelope edition first (a ∷ []) = refuse NoIndicator
+readEnvelope edition first (a ∷ (b ∷ bs)) =
+    must (digit a && digit b) NoIndicator
+    (readBy (ruleOf edition (value (a ∷ b ∷ []))) first (value (a ∷ b ∷ [])) bs)

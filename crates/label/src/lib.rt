@@ -1,0 +1,107 @@
+// The types and constants that every other crate shares, in the forms that document 01 names under 'What to write where'.
+// What a message is, how it is read and what is answered stands in specs/.
+ghost use mathlib.Core.Path.{_≡_};
+ghost use Rattle.label.specs.Limits.{limitOf};
+
+// Why a message is refused: 'Numbers for the receiving desk', in its order. `number` of specs/Answer has each one's number.
+pub enum Reason {
+    TooLong,
+    NoMessageHeader,
+    NoIndicator,
+    NoTrailer,
+    BytesAfterTrailer,
+    UnknownFormat,
+    NotFirst,
+    BadFormatHeader,
+    PayloadDoesNotFit,
+    ByteNotPermitted,
+    BodyBreaksRules,
+    NoRecordSeparator,
+    TooManyRows,
+    NoRoom,
+}
+
+// A refusal holds its reason and its place, an offset in the message.
+pub struct Refusal {
+    pub reason: Reason,
+    pub place: usize,
+}
+
+// How many envelopes and rows an accepted message has.
+pub struct Counts {
+    pub envelopes: usize,
+    pub rows: usize,
+}
+
+// What a reading answers. `answerOf` of specs/Answer has the paper's number and values for each case.
+pub enum Reading {
+    Accepted(Counts),
+    Refused(Refusal),
+}
+
+// Why rows are not written (paragraph Writer). `writeNumber` of specs/Writing has each one's number.
+pub enum WriteReason {
+    BadRows,
+    NoSuchMessage,
+    NoOutputRoom,
+}
+
+// What the writer answers: the byte count, or why not. `writeAnswerOf` of specs/Writing has the paper's number and values.
+pub enum Writing {
+    Written(usize),
+    Declined(WriteReason),
+}
+
+// The least and the greatest length of a transport field.
+pub struct Limit(pub usize, pub usize);
+
+// 'Transport fields': a row for each version, 02 and then 96, with a pair for each field in its order. Version 96 has no
+// field 15.
+const LIMITS: [[Limit; 15]; 2] = [
+    [
+        Limit(0, 11),
+        Limit(3, 3),
+        Limit(1, 3),
+        Limit(1, 20),
+        Limit(2, 4),
+        Limit(1, 10),
+        Limit(3, 3),
+        Limit(1, 30),
+        Limit(3, 9),
+        Limit(1, 10),
+        Limit(1, 1),
+        Limit(1, 35),
+        Limit(1, 35),
+        Limit(2, 2),
+        Limit(1, 35),
+    ],
+    [
+        Limit(3, 11),
+        Limit(3, 3),
+        Limit(1, 3),
+        Limit(1, 20),
+        Limit(2, 4),
+        Limit(1, 10),
+        Limit(3, 3),
+        Limit(1, 30),
+        Limit(3, 9),
+        Limit(1, 10),
+        Limit(1, 1),
+        Limit(1, 35),
+        Limit(1, 35),
+        Limit(2, 2),
+        Limit(0, 0),
+    ],
+];
+
+// The limits of a field, by version (0 for 02, 1 for 96) and field (0 for field No. 1); 0 and 0 where there is none.
+pub fn limits_of(version: usize, field: usize) -> Limit
+    ensures { λ r. ⌜ r ≡ limitOf version field ⌝ }
+{
+    if version < 2 {
+        if field < 15 {
+            return LIMITS[version][field];
+        }
+    }
+    Limit(0, 0)
+}
