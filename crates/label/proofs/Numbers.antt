@@ -13,7 +13,7 @@ use Rattle.label.specs.declared.WriteReason.the-variants.{BadRows, NoSuc
 use Rattle.label.specs.declared.Writing.{Writing}
 use Rattle.label.specs.declared.Writing.the-variants.{Written, Declined}
 use Rattle.label.specs.Answer.{number, answerOf}
-use Rattle.label.specs.Writing.{writeNumber, writeAnswerOf}
+use Rattle.label.specs.Writing.{writeAnswerOf}
 
 abbrev reasons : List Reason
 reasons =
@@ -40,9 +40,6 @@ numbered-back BodyBreaksRules = refl
 numbered-back NoRecordSeparator = refl
 numbered-back TooManyRows = refl
 numbered-back NoRoom = refl
-
-pub reasons-by-number : (a b : Reason) → number a ≡ number b → a ≡ b
-reasons-by-number a b same = sym (numbered-back a) ∙ ap numbered same ∙ numbered-back b
 
 -- two numbers are a refusal, three an acceptance
 abbrev answered-back : List ℕ → Reading

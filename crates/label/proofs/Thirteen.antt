@@ -1,6 +1,5 @@
 -- The thirteen cases of 01's table 'Proved', as one statement about the reading definition; and for those that are accepted, that the writing side
 -- has them too. All by computation. H is `[)>` RS.
-use Prim.Native.Nat.{ℕ}
 use mathlib.Core.Path.{_≡_, refl}
 use mathlib.Core.Bool.{true}
 use mathlib.Core.List.{List, [], _∷_, map, tail}

@@ -1,19 +1,17 @@
 -- What is answered, in the paper's numbers, and what lent memory holds afterwards (01, Numbers for the receiving desk).
-use Prim.Native.Nat.{ℕ, _+_, _/_}
-use mathlib.Core.Bool.{Bool, true, false, cond}
+use Prim.Native.Nat.{ℕ, _/_}
+use mathlib.Core.Bool.{cond}
 use mathlib.Core.List.{List, [], _∷_, _++_, map}
-use lib.ListN.{length, getD, drop}
+use lib.ListN.{length, drop}
 use lib.Dec.{ltb}
 use Rattle.label.specs.declared.Reason.{Reason}
 use Rattle.label.specs.declared.Reason.the-variants.{TooLong, NoMessageHeader, NoIndicator, NoTrailer, BytesAfterTrailer, UnknownFormat, NotFirst, BadFormatHeader, PayloadDoesNotFit, ByteNotPermitted, BodyBreaksRules, NoRecordSeparator, TooManyRows, NoRoom}
-use Rattle.label.specs.declared.Refusal.{Refusal}
-use Rattle.label.specs.declared.Counts.{Counts}
 use Rattle.label.specs.declared.Reading.{Reading}
 use Rattle.label.specs.declared.Reading.the-variants.{Accepted, Refused}
 use Rattle.label.specs.Bytes.{Bytes}
 use Rattle.label.specs.Limits.{mostRows, rowWidth}
 use Rattle.label.specs.Formats.{Edition}
-use Rattle.label.specs.Layout.{Row, numbers, allNumbers}
+use Rattle.label.specs.Layout.{numbers, allNumbers}
 use Rattle.label.specs.Message.{rowsOf}
 use Rattle.label.specs.ReadMessage.{Outcome, read, refused, reading}
 

@@ -1,7 +1,7 @@
 -- What an element of format 05 or 06 is (01, Envelope rules).
 use Prim.Native.Nat.{ℕ, zero, suc}
-use mathlib.Core.Bool.{Bool, true, false, not, _&&_, cond}
-use mathlib.Core.List.{List, [], _∷_}
+use mathlib.Core.Bool.{Bool, false, not, _&&_, cond}
+use mathlib.Core.List.{[], _∷_}
 use lib.ListN.{length, take}
 use lib.Dec.{leb}
 use Rattle.label.specs.Bytes.{Bytes, digit, capital, every, isEmpty}

@@ -12,8 +12,8 @@ use Rattle.label.specs.Fields.{transport}
 use Rattle.label.specs.Formats.{Edition, ruleOf, asFields, asRest, asSegments, asElements, asText, asCounted}
 
 pub data Envelope : Type 0 where
-  -- 01: version and fields
-  fields : Version → List Bytes → Envelope
+  -- 01: format, version and fields
+  fields : ℕ → Version → List Bytes → Envelope
   -- 02: format and body, all the rest of the message
   wholeRest : ℕ → Bytes → Envelope
   -- 03, 04: format, the six bytes of the header, and segments
@@ -25,13 +25,9 @@ pub data Envelope : Type 0 where
   -- 09: format, type, compression, count with its digits as they stand, and payload
   counted : ℕ → Bytes → Bytes → Bytes → Bytes → Envelope
 
--- the number of format 01
-abbrev pub transportFormat : ℕ
-transportFormat = 1
-
 -- 01: the version's fields, plain bytes
-pub record WithinFields (edition : Edition) (v : Version) (fs : List Bytes) : Type 0 where
-  pub known : ruleOf edition transportFormat ≡ asFields
+pub record WithinFields (edition : Edition) (f : ℕ) (v : Version) (fs : List Bytes) : Type 0 where
+  pub known : ruleOf edition f ≡ asFields
   pub plainBytes : every (every plain) fs ≡ true
   pub asStated : transport v fs ≡ true
 
@@ -79,7 +75,7 @@ pub record WithinCounted (edition : Edition) (f : ℕ) (t c n payload : Bytes) :
 
 -- an envelope is within the rules
 abbrev pub Within : Edition → Envelope → Type 0
-Within edition (fields v fs) = WithinFields edition v fs
+Within edition (fields f v fs) = WithinFields edition f v fs
 Within edition (wholeRest f body) = WithinRest edition f body
 Within edition (segments f header ss) = WithinSegments edition f header ss
 Within edition (elements f es) = WithinElements edition f es

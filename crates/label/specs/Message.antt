@@ -1,5 +1,5 @@
 -- What a message is, what its rows are, and when it is good (01, Envelope rules and Rows).
-use Prim.Native.Nat.{ℕ, _≤_}
+use Prim.Native.Nat.{_≤_}
 use mathlib.Core.Path.{_≡_}
 use mathlib.Core.Bool.{Bool, true, false, not, _||_, cond}
 use mathlib.Core.List.{List, [], _∷_, _++_, map}
@@ -17,7 +17,7 @@ header = ascii "[)>" ++ (RS ∷ [])
 
 -- format 01
 abbrev pub isTransport : Envelope → Bool
-isTransport (fields v fs) = true
+isTransport (fields f v fs) = true
 isTransport (wholeRest f body) = false
 isTransport (segments f r ss) = false
 isTransport (elements f es) = false
@@ -26,7 +26,7 @@ isTransport (counted f t c n payload) = false
 
 -- format 02
 abbrev pub isRest : Envelope → Bool
-isRest (fields v fs) = false
+isRest (fields f v fs) = false
 isRest (wholeRest f body) = true
 isRest (segments f r ss) = false
 isRest (elements f es) = false

@@ -68,12 +68,12 @@ versionOf bs =
     (cond (sameBytes bs (versionDigits version96)) (some version96)
     none)
 
-unfoldable pub readFields : Option Version → Bytes → Step
-readFields none bs = refuse BadFormatHeader
-readFields (some v) bs = bodied plainOrGS (λ body. transport v (pieces GS body)) (λ body. fields v (pieces GS body)) bs
+unfoldable pub readFields : ℕ → Option Version → Bytes → Step
+readFields f none bs = refuse BadFormatHeader
+readFields f (some v) bs = bodied plainOrGS (λ body. transport v (pieces GS body)) (λ body. fields f v (pieces GS body)) bs
 
-unfoldable pub readTransport : Bytes → Step
-readTransport bs = opened (GS ∷ []) bs λ after. readFields (versionOf (take 2 after)) (drop 2 after)
+unfoldable pub readTransport : ℕ → Bytes → Step
+readTransport f bs = opened (GS ∷ []) bs λ after. readFields f (versionOf (take 2 after)) (drop 2 after)
 
 -- 02: all the rest
 unfoldable pub readRest : (ℕ → Bool) → ℕ → Bytes → Step
@@ -125,7 +125,7 @@ readCounted f bs =
 
 unfoldable pub readBy : Rule → Bool → ℕ → Bytes → Step
 readBy unknown first f bs = refuse UnknownFormat
-readBy asFields first f bs = must first NotFirst (readTransport bs)
+readBy asFields first f bs = must first NotFirst (readTransport f bs)
 readBy (asRest permitted) first f bs = must first NotFirst (readRest permitted f bs)
 readBy (asSegments isTag) first f bs = readSegments isTag f bs
 readBy (asElements isElement) first f bs = readElements isElement f bs

@@ -1,5 +1,5 @@
 -- How a message is read: the list of its envelopes, or a reason and a place, for every list of bytes (01, Numbers for the receiving desk).
-use Prim.Native.Nat.{ℕ, zero, suc, _+_, _-_}
+use Prim.Native.Nat.{ℕ, zero, suc, _-_}
 use mathlib.Core.Bool.{Bool, true, false, cond}
 use mathlib.Core.List.{List, [], _∷_}
 use lib.ListN.{length, drop}
@@ -42,10 +42,14 @@ follow m next bs (closed e left) = andThen e (atBoundary m next left)
 follow m next bs (whole e) = read (e ∷ [])
 follow m next bs (refuse reason) = refused reason (placeOf m bs)
 
--- the envelopes from the left, at most n of them; a message has fewer envelopes than bytes, so with its length for n they never run out
+-- the envelopes from the left, at most n of them
 unfoldable pub walk : Edition → Bytes → ℕ → Bool → Bytes → Outcome
 walk edition m zero first bs = refused NoIndicator (placeOf m bs)
 walk edition m (suc n) first bs = follow m (walk edition m n false) bs (readEnvelope edition first bs)
+
+-- a message has fewer envelopes than bytes, so that this many never run out
+abbrev pub enough : Bytes → ℕ
+enough m = length m
 
 -- how many first bytes agree with a header: all of it, or the first offset that differs, or the length if cut short
 abbrev pub agreement : Bytes → Bytes → ℕ
@@ -63,4 +67,4 @@ unfoldable pub reading : Edition → Bytes → Outcome
 reading edition m =
     cond (ltb longest (length m)) (refused TooLong longest)
     (cond (ltb (agreement header m) (length header)) (refused NoMessageHeader (agreement header m))
-    (withinRows (walk edition m (length m) true (drop (length header) m))))
+    (withinRows (walk edition m (enough m) true (drop (length header) m))))

@@ -1,13 +1,13 @@
 -- The one message that a list of items can have: between two items stand the marks that their kinds and formats ask for. It is laid out whatever
 -- the items are; whether it is good is another question.
 use Prim.Native.Nat.{ℕ}
-use mathlib.Core.Bool.{Bool, true, false, _&&_, cond}
+use mathlib.Core.Bool.{_&&_, cond}
 use mathlib.Core.List.{List, [], _∷_, _++_}
 use lib.Dec.{leb, eqb}
 use Rattle.label.specs.Bytes.{Bytes, EOT, FS, GS, RS, US}
 use Rattle.label.specs.Formats.{Edition, Rule, ruleOf, asFields, asRest, asSegments, asElements, asText, asCounted, unknown}
 use Rattle.label.specs.Layout.{Item}
-use Rattle.label.specs.Written.{indicatorRow, valueRow, pieceRow, tagRow, elementRow, subElementRow, bodyRow}
+use Rattle.label.specs.Written.{indicatorRow, valueRow, pieceRow, tagRow, elementRow, subElementRow}
 use Rattle.label.specs.Message.{header}
 
 -- before a header value: GS, but in a format of segments nothing

@@ -1,6 +1,5 @@
 -- What a segment of format 03 or 04 is (01, Envelope rules).
-use Prim.Native.Nat.{ℕ}
-use mathlib.Core.Bool.{Bool, true, false, not, _&&_}
+use mathlib.Core.Bool.{Bool, false, not, _&&_}
 use mathlib.Core.List.{List, [], _∷_}
 use lib.ListN.{take}
 use Rattle.label.specs.Bytes.{Bytes, ascii, capital, capitalOrDigit, every, sameBytes}

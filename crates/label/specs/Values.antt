@@ -1,7 +1,7 @@
 -- What stands in a format's header (01, Envelope rules, column Header).
 use Prim.Native.Nat.{ℕ, _+_, _-_, _*_}
 use mathlib.Core.Bool.{Bool, _&&_}
-use mathlib.Core.List.{List, [], _∷_}
+use mathlib.Core.List.{[], _∷_}
 use Rattle.label.specs.Bytes.{Bytes, ascii, plain, digit, capitalOrDigit, every}
 use Rattle.label.specs.Limits.{longAs, _to_}
 

@@ -4,7 +4,7 @@ use mathlib.Core.List.{List, [], _∷_, _++_, map}
 use Rattle.label.specs.Bytes.{Bytes, FS, GS, US}
 use Rattle.label.specs.Values.{versionDigits}
 use Rattle.label.specs.Segments.{Element, Segment}
-use Rattle.label.specs.Envelope.{Envelope, fields, wholeRest, segments, elements, text, counted, transportFormat}
+use Rattle.label.specs.Envelope.{Envelope, fields, wholeRest, segments, elements, text, counted}
 use Rattle.label.specs.Layout.{Part, mark, item, separated, further, ended}
 
 -- kinds of rows
@@ -57,8 +57,7 @@ segmentParts f (e ∷ es) = elementParts tagRow f e ++ further GS (map (elementP
 
 -- an envelope, but for the RS behind it: indicator, header, body
 unfoldable pub parts : Envelope → List Part
-parts (fields v fs) =
-    indicator transportFormat ∷ mark GS ∷ rowed valueRow transportFormat (versionDigits v) ∷ separated GS (rowedEach pieceRow transportFormat fs)
+parts (fields f v fs) = indicator f ∷ mark GS ∷ rowed valueRow f (versionDigits v) ∷ separated GS (rowedEach pieceRow f fs)
 parts (wholeRest f body) = indicator f ∷ rowed bodyRow f body ∷ []
 parts (segments f header ss) = indicator f ∷ rowed valueRow f header ∷ mark FS ∷ mark GS ∷ mark US ∷ ended FS (map (segmentParts f) ss)
 parts (elements f es) = indicator f ∷ mark GS ∷ separated GS (rowedEach pieceRow f es)

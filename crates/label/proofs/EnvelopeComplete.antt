@@ -1,0 +1,255 @@
+-- An envelope within its rules, written and then RS, is read as just that envelope, and what follows the RS is left; one of format 02 takes all.
+use Prim.Native.Nat.{ℕ, _<_}
+use mathlib.Core.Path.{_≡_, refl, sym, ap, _∙_, subst}
+use mathlib.Core.Bool.{Bool, true, false, not, _||_, cond, false≢true, true≢false}
+use mathlib.Core.Option.{some}
+use mathlib.Core.List.{List, [], _∷_, _++_, map, append-assoc}
+use native.Mathlib.Omega.{arith}
+use borrow.Author.Tests.{lt-ltb, eq-eqb, leb-true}
+use lib.ListN.{length, take, drop, length-append}
+use lib.Seq.{take-append-seam, drop-append-add, getD-append-seam, take-at, drop-at}
+use lib.Dec.{leb, eqb}
+use Rattle.label.specs.declared.Reason.{Reason}
+use Rattle.label.specs.declared.Reason.the-variants.{BadFormatHeader}
+use Rattle.label.specs.Bytes.{Bytes, EOT, FS, GS, RS, US, control, plain, digit, below80, every, isEmpty}
+use Rattle.label.specs.Limits.{longAs, _to_}
+use Rattle.label.specs.Pieces.{pieces, lastIsEmpty}
+use Rattle.label.specs.Values.{Version, version02, version96, versionDigits, releaseLength, release, payloadType, compression, count}
+use Rattle.label.specs.Segments.{Segment, tagged}
+use Rattle.label.specs.Fields.{transport}
+use Rattle.label.specs.Formats.{Edition, edition2005, textByte, Format, formats, ruleIn, Rule, ruleOf, asFields, asRest, asSegments, asElements, asText, asCounted, unknown}
+use Rattle.label.specs.Layout.{bytesOf}
+use Rattle.label.specs.Envelope.{Envelope, fields, wholeRest, segments, elements, text, counted, Within}
+use Rattle.label.specs.Written.{twoDigits, parts}
+use Rattle.label.specs.Message.{isTransport, isRest, Each}
+use Rattle.label.specs.ReadEnvelope.{Step, closed, whole, must, opened, valuedAt, valued, bodyAt, bodied, plainOrGS, versionOf, readFields, readTransport, readRest, segmentByte, segmentsIn, areSegments, readSegments, readElements, readText, readPayload, readCounted, readBy, readEnvelope}
+use Rattle.label.proofs.Tests.{both, and-both, or-left, or-right, or-not, free, free-of, Without, without-or, without-one, plain-without, digit-without, not-true, not-false, every-implies}
+use Rattle.label.proofs.Splitting.{joined, pieces-of-joined, last-of-terminated, cut-front, every-joined}
+use Rattle.label.proofs.Laid.{segmentBytes, contentBytes, formatOf, bytes-envelope}
+use Rattle.label.proofs.SegmentLaws.{bodyOf, body-bytes, body-pieces, segments-again}
+use Rattle.label.proofs.Digits.{two-digits, known-small}
+
+-- Steps of a reading
+
+must-pass : (t : Bool) (r : Reason) (s : Step) → t ≡ true → must t r s ≡ s
+must-pass t r s h = ap (λ x. must x r s) h
+
+valued-pass : (test : Bytes → Bool) (v rest : Bytes) (next : Bytes → Bytes → Step) → free GS v ≡ true → test v ≡ true → valued test (v ++ (GS ∷ rest)) next ≡ next v rest
+valued-pass test v rest next none-inside passes = ap (valuedAt test next) (cut-front GS v rest none-inside) ∙ must-pass (test v) _ _ passes
+
+bodied-pass : (permitted : ℕ → Bool) (rules : Bytes → Bool) (made : Bytes → Envelope) (body left : Bytes)
+    → Without RS permitted → every permitted body ≡ true → rules body ≡ true → bodied permitted rules made (body ++ (RS ∷ left)) ≡ closed (made body) left
+unfolding bodied
+bodied-pass permitted rules made body left without p r =
+    ap (bodyAt permitted rules made) (cut-front RS body left (free-of RS permitted without body p))
+    ∙ must-pass (every permitted body) _ _ p
+    ∙ must-pass (rules body) _ _ r
+
+-- RS is permitted in no body that runs to RS
+
+plain-or-gs-without : Without RS plainOrGS
+unfolding plainOrGS
+plain-or-gs-without = without-or RS plain (λ b. eqb b GS) (plain-without RS (omega arith)) (without-one RS GS refl)
+
+segment-byte-without : Without RS segmentByte
+unfolding segmentByte
+segment-byte-without =
+    without-or RS (λ b. plain b || eqb b FS || eqb b GS) (λ b. eqb b US)
+    (without-or RS (λ b. plain b || eqb b FS) (λ b. eqb b GS)
+    (without-or RS plain (λ b. eqb b FS) (plain-without RS (omega arith)) (without-one RS FS refl))
+    (without-one RS GS refl))
+    (without-one RS US refl)
+
+neither-left : (a b : Bool) → (a || b) ≡ false → a ≡ false
+neither-left true b h = h
+neither-left false b h = refl
+
+neither-right : (a b : Bool) → (a || b) ≡ false → b ≡ false
+neither-right true b h = absurd (true≢false h)
+neither-right false b h = h
+
+text-byte-without : Without RS textByte
+unfolding textByte control
+text-byte-without b h =
+    neither-right (eqb b EOT || eqb b FS || eqb b GS) (eqb b RS)
+    (neither-left (eqb b EOT || eqb b FS || eqb b GS || eqb b RS) (eqb b US)
+    (not-true _ (both (below80 b) _ h .right)))
+
+-- what the completeness of a rule asks of its test
+abbrev Sound : Rule → Type 0
+Sound asFields = Unit {0}
+Sound (asRest permitted) = Unit {0}
+Sound (asSegments isTag) = Unit {0}
+Sound (asElements isElement) = Unit {0}
+Sound (asText permitted) = Without RS permitted
+Sound asCounted = Unit {0}
+Sound unknown = Unit {0}
+
+rules-sound : (edition : Edition) → Each (λ (f : Format). Sound (f .rule)) (formats edition)
+rules-sound edition2005 = (tt, (tt, (tt, (tt, (tt, (tt, (text-byte-without, (tt, tt))))))))
+
+sound-in : (n : ℕ) (fs : List Format) → Each (λ (f : Format). Sound (f .rule)) fs → Sound (ruleIn n fs)
+sound-in n [] hs = tt
+sound-in n (f ∷ fs) hs = by (eqb n (f .number)) (sound-in n fs (hs .1))
+  where
+    by : (t : Bool) → Sound (ruleIn n fs) → Sound (cond t (f .rule) (ruleIn n fs))
+    by true later = hs .0
+    by false later = later
+
+text-without : (edition : Edition) (f : ℕ) (permitted : ℕ → Bool) → ruleOf edition f ≡ asText permitted → Without RS permitted
+unfolding ruleOf
+text-without edition f permitted known = subst Sound known (sound-in f (formats edition) (rules-sound edition))
+
+-- Each shape, behind its indicator
+
+text-pass : (edition : Edition) (f : ℕ) (body left : Bytes) (w : Within edition (text f body)) → readText (w .permitted) f (body ++ (RS ∷ left)) ≡ closed (text f body) left
+unfolding readText
+text-pass edition f body left w = bodied-pass (w .permitted) (λ b. true) (text f) body left (text-without edition f (w .permitted) (w .known)) (w .permittedBytes) refl
+
+rest-pass : (edition : Edition) (f : ℕ) (body : Bytes) (w : Within edition (wholeRest f body)) → readRest (w .permitted) f body ≡ whole (wholeRest f body)
+unfolding readRest
+rest-pass edition f body w = must-pass _ _ _ (not-false (w .notEmpty)) ∙ must-pass _ _ _ (w .permittedBytes)
+
+plain-joined : (ps : List Bytes) → every (every plain) ps ≡ true → every plainOrGS (joined GS ps) ≡ true
+unfolding plainOrGS
+plain-joined ps h = every-joined plainOrGS GS ps (or-right (plain GS) refl) (every-implies (every plain) (every plainOrGS) (every-implies plain plainOrGS (λ b p. or-left (eqb b GS) p)) ps h)
+
+free-pieces : (c : ℕ) → c < 0x20 → (ps : List Bytes) → every (every plain) ps ≡ true → every (free c) ps ≡ true
+free-pieces c before ps h = every-implies (every plain) (free c) (free-of c plain (plain-without c before)) ps h
+
+-- a body of pieces between GS, for any rule of the pieces
+pieces-pass : (rules : List Bytes → Bool) (made : List Bytes → Envelope) (ps : List Bytes) (left : Bytes) → isEmpty ps ≡ false → every (every plain) ps ≡ true → rules ps ≡ true
+    → bodied plainOrGS (λ body. rules (pieces GS body)) (λ body. made (pieces GS body)) (joined GS ps ++ (RS ∷ left)) ≡ closed (made ps) left
+pieces-pass rules made ps left one p r =
+    let back = pieces-of-joined GS ps one (free-pieces GS (omega arith) ps p) in
+    bodied-pass plainOrGS (λ body. rules (pieces GS body)) (λ body. made (pieces GS body)) (joined GS ps) left plain-or-gs-without (plain-joined ps p) (ap rules back ∙ r)
+    ∙ ap (λ x. closed (made x) left) back
+
+elements-pass : (edition : Edition) (f : ℕ) (es : List Bytes) (left : Bytes) (w : Within edition (elements f es)) → readElements (w .isElement) f (GS ∷ (joined GS es ++ (RS ∷ left))) ≡ closed (elements f es) left
+unfolding readElements
+elements-pass edition f es left w = pieces-pass (every (w .isElement)) (elements f) es left (w .oneOrMore) (w .plainBytes) (w .asStated)
+
+fields-some : (v : Version) (fs : List Bytes) → transport v fs ≡ true → isEmpty fs ≡ false
+unfolding transport
+fields-some v [] h = absurd (false≢true h)
+fields-some v (f ∷ fs) h = refl
+
+version-pass : (v : Version) (rest : Bytes) → versionOf (take 2 (versionDigits v ++ rest)) ≡ some v
+unfolding versionOf
+version-pass version02 rest = refl
+version-pass version96 rest = refl
+
+behind-version : (v : Version) (rest : Bytes) → drop 2 (versionDigits v ++ rest) ≡ rest
+behind-version version02 rest = refl
+behind-version version96 rest = refl
+
+transport-pass : (edition : Edition) (f : ℕ) (v : Version) (fs : List Bytes) (left : Bytes) → Within edition (fields f v fs) → readTransport f (GS ∷ (versionDigits v ++ (joined GS fs ++ (RS ∷ left)))) ≡ closed (fields f v fs) left
+unfolding readTransport readFields
+transport-pass edition f v fs left w =
+    (λ i. readFields f (version-pass v (joined GS fs ++ (RS ∷ left)) i) (behind-version v (joined GS fs ++ (RS ∷ left)) i))
+    ∙ pieces-pass (transport v) (fields f v) fs left (fields-some v fs (w .asStated)) (w .plainBytes) (w .asStated)
+
+six-long : (header : Bytes) → release header ≡ true → length header ≡ releaseLength
+unfolding release longAs
+six-long header h =
+    let k = both (leb releaseLength (length header)) (leb (length header) releaseLength) (both _ _ h .left) in
+    let least = leb-true releaseLength (length header) (k .left) in
+    let greatest = leb-true (length header) releaseLength (k .right) in
+    omega arith
+
+-- 03 and 04, given the six bytes and what follows them
+abbrev read-six : (Bytes → Bool) → ℕ → Bytes → Bytes → Step
+read-six isTag f header after =
+    must (release header) BadFormatHeader
+    (opened (FS ∷ GS ∷ US ∷ []) after λ rest. bodied segmentByte (areSegments isTag) (λ body. segments f header (segmentsIn body)) rest)
+
+segments-pass : (edition : Edition) (f : ℕ) (header : Bytes) (ss : List Segment) (left : Bytes) (w : Within edition (segments f header ss))
+    → readSegments (w .isTag) f (header ++ (FS ∷ (GS ∷ (US ∷ (bodyOf ss ++ (RS ∷ left)))))) ≡ closed (segments f header ss) left
+unfolding readSegments areSegments
+segments-pass edition f header ss left w =
+    let six = six-long header (w .sixBytes) in
+    let tail = FS ∷ (GS ∷ (US ∷ (bodyOf ss ++ (RS ∷ left)))) in
+    let again = segments-again (w .isTag) ss (w .plainBytes) (w .allTagged) in
+    let ends : lastIsEmpty (pieces FS (bodyOf ss)) ≡ true = ap lastIsEmpty (body-pieces ss (w .plainBytes)) ∙ last-of-terminated (map segmentBytes ss) in
+    (λ i. read-six (w .isTag) f (take-at header tail releaseLength six i) (drop-at header tail releaseLength six i))
+    ∙ must-pass (release header) _ _ (w .sixBytes)
+    ∙ bodied-pass segmentByte (areSegments (w .isTag)) (λ body. segments f header (segmentsIn body)) (bodyOf ss) left segment-byte-without (body-bytes ss (w .plainBytes))
+    (and-both (and-both ends (ap (λ x. not (isEmpty x)) again ∙ not-false (w .oneOrMore))) (ap (every (tagged (w .isTag))) again ∙ w .allTagged))
+    ∙ ap (λ x. closed (segments f header x) left) again
+
+payload-pass : (made : Bytes → Envelope) (payload left : Bytes) → readPayload (length payload) made (payload ++ (RS ∷ left)) ≡ closed (made payload) left
+unfolding readPayload
+payload-pass made payload left =
+    must-pass _ _ _
+    (and-both (lt-ltb (length payload) (length (payload ++ (RS ∷ left))) (omega (arith, length-append payload (RS ∷ left))))
+    (eq-eqb _ RS (getD-append-seam payload RS left 0)))
+    ∙ (λ i. closed (made (take-append-seam payload (RS ∷ left) i)) (drop-append-add payload (RS ∷ left) 1 i))
+
+counted-pass : (edition : Edition) (f : ℕ) (t c n payload left : Bytes) → Within edition (counted f t c n payload)
+    → readCounted f (GS ∷ (t ++ (GS ∷ (c ++ (GS ∷ (n ++ (GS ∷ (payload ++ (RS ∷ left))))))))) ≡ closed (counted f t c n payload) left
+unfolding readCounted payloadType compression count
+counted-pass edition f t c n payload left w =
+    valued-pass payloadType t _ _ (free-of GS plain (plain-without GS (omega arith)) t (both (longAs (1 to 30) t) (every plain t) (w .isType) .right)) (w .isType)
+    ∙ valued-pass compression c _ _ (free-of GS plain (plain-without GS (omega arith)) c (both (longAs (0 to 30) c) (every plain c) (w .isCompression) .right)) (w .isCompression)
+    ∙ valued-pass count n _ _ (free-of GS digit (digit-without GS (omega arith)) n (both (longAs (1 to 15) n) (every digit n) (w .isCount) .right)) (w .isCount)
+    ∙ ap (λ k. readPayload k (counted f t c n) (payload ++ (RS ∷ left))) (w .counts)
+    ∙ payload-pass (counted f t c n) payload left
+
+-- Behind any indicator of a known format
+
+abbrev isKnown : Rule → Bool
+isKnown asFields = true
+isKnown (asRest permitted) = true
+isKnown (asSegments isTag) = true
+isKnown (asElements isElement) = true
+isKnown (asText permitted) = true
+isKnown asCounted = true
+isKnown unknown = false
+
+indicator-pass : (edition : Edition) (first : Bool) (f : ℕ) (rule : Rule) (bs : Bytes) → ruleOf edition f ≡ rule → isKnown rule ≡ true → readEnvelope edition first (twoDigits f ++ bs) ≡ readBy rule first f bs
+unfolding readEnvelope
+indicator-pass edition first f rule bs known is =
+    let so = two-digits f (known-small edition f (λ u. true≢false (sym is ∙ ap isKnown (sym known ∙ u)))) in
+    must-pass _ _ _ (and-both (so .first) (so .second))
+    ∙ ap (λ n. readBy (ruleOf edition n) first n bs) (so .number)
+    ∙ ap (λ r. readBy r first f bs) known
+
+-- the reading of an envelope's header and body, whatever stands in front
+content-pass : (edition : Edition) (first : Bool) (e : Envelope) (left : Bytes) → Within edition e → isRest e ≡ false → (first || not (isTransport e)) ≡ true
+    → readEnvelope edition first (twoDigits (formatOf e) ++ (contentBytes e ++ (RS ∷ left))) ≡ closed e left
+unfolding readBy
+content-pass edition first (fields f v fs) left w notRest inPlace =
+    indicator-pass edition first f asFields _ (w .known) refl
+    ∙ must-pass first _ _ (or-not first false inPlace refl)
+    ∙ ap (λ x. readTransport f (GS ∷ x)) (append-assoc (versionDigits v) (joined GS fs) (RS ∷ left))
+    ∙ transport-pass edition f v fs left w
+content-pass edition first (wholeRest f body) left w notRest inPlace = absurd (true≢false notRest)
+content-pass edition first (segments f header ss) left w notRest inPlace =
+    indicator-pass edition first f (asSegments (w .isTag)) _ (w .known) refl
+    ∙ ap (readSegments (w .isTag) f) (append-assoc header (FS ∷ (GS ∷ (US ∷ bodyOf ss))) (RS ∷ left))
+    ∙ segments-pass edition f header ss left w
+content-pass edition first (elements f es) left w notRest inPlace =
+    indicator-pass edition first f (asElements (w .isElement)) _ (w .known) refl ∙ elements-pass edition f es left w
+content-pass edition first (text f body) left w notRest inPlace =
+    indicator-pass edition first f (asText (w .permitted)) _ (w .known) refl ∙ text-pass edition f body left w
+content-pass edition first (counted f t c n payload) left w notRest inPlace =
+    indicator-pass edition first f asCounted _ (w .known) refl
+    ∙ ap (readCounted f) (regrouped t c n payload left)
+    ∙ counted-pass edition f t c n payload left w
+  where
+    regrouped : (t c n payload left : Bytes) → contentBytes (counted f t c n payload) ++ (RS ∷ left) ≡ GS ∷ (t ++ (GS ∷ (c ++ (GS ∷ (n ++ (GS ∷ (payload ++ (RS ∷ left))))))))
+    regrouped t c n payload left = simp append-assoc
+
+pub step-pass : (edition : Edition) (first : Bool) (e : Envelope) (left : Bytes) → Within edition e → isRest e ≡ false → (first || not (isTransport e)) ≡ true
+    → readEnvelope edition first (bytesOf (parts e) ++ (RS ∷ left)) ≡ closed e left
+step-pass edition first e left w notRest inPlace = ap (λ x. readEnvelope edition first (x ++ (RS ∷ left))) (bytes-envelope e) ∙ content-pass edition first e left w notRest inPlace
+
+pub whole-pass : (edition : Edition) (e : Envelope) → Within edition e → isRest e ≡ true → readEnvelope edition true (bytesOf (parts e)) ≡ whole e
+unfolding readBy
+whole-pass edition (fields f v fs) w is = absurd (false≢true is)
+whole-pass edition (wholeRest f body) w is =
+    ap (readEnvelope edition true) (bytes-envelope (wholeRest f body)) ∙ indicator-pass edition true f (asRest (w .permitted)) body (w .known) refl ∙ rest-pass edition f body w
+whole-pass edition (segments f header ss) w is = absurd (false≢true is)
+whole-pass edition (elements f es) w is = absurd (false≢true is)
+whole-pass edition (text f body) w is = absurd (false≢true is)
+whole-pass edition (counted f t c n payload) w is = absurd (false≢true is)

@@ -1,0 +1,271 @@
+-- What is read as an envelope is one: it is within its rules, and what was read is what it writes. A refusal says nothing here. The argument follows the
+-- reading: each test that was passed is a fact about the bytes, and at the end the facts are the envelope's rules.
+use Prim.Native.Nat.{ℕ, _+_, _<_}
+use mathlib.Core.Path.{_≡_, refl, sym, ap, _∙_, subst}
+use mathlib.Core.Bool.{Bool, true, false, not, _&&_, _||_, cond, false≢true}
+use mathlib.Core.Option.{Option, none, some}
+use mathlib.Core.List.{[], _∷_, _++_, map, append-assoc}
+use native.Mathlib.Omega.{arith}
+use native.Mathlib.Numerals.{add-one}
+use borrow.Author.Tests.{ltb-true, eqb-true}
+use lib.ListN.{length, getD, take, drop, take-append-drop}
+use lib.Seq.{split-at, length-take-le}
+use lib.Dec.{ltb, eqb}
+use Rattle.label.specs.declared.Reason.{Reason}
+use Rattle.label.specs.declared.Reason.the-variants.{TooLong, NoMessageHeader, NoIndicator, NoTrailer, BytesAfterTrailer, UnknownFormat, NotFirst, BadFormatHeader, PayloadDoesNotFit, ByteNotPermitted, BodyBreaksRules, NoRecordSeparator, TooManyRows, NoRoom}
+use Rattle.label.specs.Bytes.{Bytes, FS, GS, RS, US, plain, digit, every, isEmpty, sameBytes}
+use Rattle.label.specs.Pieces.{pieces, lastIsEmpty, Cut, found, absent, cut}
+use Rattle.label.specs.Values.{Version, version02, version96, versionDigits, releaseLength, release, payloadType, compression, count, value}
+use Rattle.label.specs.Segments.{tagged}
+use Rattle.label.specs.Fields.{transport}
+use Rattle.label.specs.Formats.{Edition, Rule, ruleOf, asFields, asRest, asSegments, asElements, asText, asCounted, unknown}
+use Rattle.label.specs.Layout.{bytesOf}
+use Rattle.label.specs.Envelope.{Envelope, fields, wholeRest, segments, elements, text, counted, Within}
+use Rattle.label.specs.Written.{twoDigits, parts}
+use Rattle.label.specs.Message.{isTransport, isRest}
+use Rattle.label.specs.ReadEnvelope.{Step, closed, whole, refuse, must, opened, valuedAt, valued, bodyAt, bodied, plainOrGS, versionOf, readFields, readTransport, readRest, segmentByte, segmentsIn, areSegments, readSegments, readElements, readText, readPayload, readCounted, readBy, readEnvelope}
+use Rattle.label.proofs.Tests.{both, or-left, or-not, not-true}
+use Rattle.label.proofs.Splitting.{joined, terminated, joined-pieces, pieces-some, CutSo, cut-so, every-pieces}
+use Rattle.label.proofs.Laid.{segmentBytes, contentBytes, formatOf, bytes-envelope}
+use Rattle.label.proofs.SegmentLaws.{segments-back, plain-segments}
+use Rattle.label.proofs.Digits.{digits-two}
+
+-- the reasons that an envelope is refused for: 3 and 6 to 12
+abbrev pub OfEnvelope : Reason → Type 0
+OfEnvelope TooLong = ⊥
+OfEnvelope NoMessageHeader = ⊥
+OfEnvelope NoIndicator = Unit {0}
+OfEnvelope NoTrailer = ⊥
+OfEnvelope BytesAfterTrailer = ⊥
+OfEnvelope UnknownFormat = Unit {0}
+OfEnvelope NotFirst = Unit {0}
+OfEnvelope BadFormatHeader = Unit {0}
+OfEnvelope PayloadDoesNotFit = Unit {0}
+OfEnvelope ByteNotPermitted = Unit {0}
+OfEnvelope BodyBreaksRules = Unit {0}
+OfEnvelope NoRecordSeparator = Unit {0}
+OfEnvelope TooManyRows = ⊥
+OfEnvelope NoRoom = ⊥
+
+-- Steps of a reading, for any claim that such a refusal meets
+
+module _ (Claim : Step → Type 0) (refusal : (r : Reason) → OfEnvelope r → Claim (refuse r)) where
+  must-so : (t : Bool) (r : Reason) (s : Step) → OfEnvelope r → (t ≡ true → Claim s) → Claim (must t r s)
+  must-so true r s why h = h refl
+  must-so false r s why h = refusal r why
+
+  opened-so : (hs bs : Bytes) (next : Bytes → Step) → ((rest : Bytes) → bs ≡ hs ++ rest → Claim (next rest)) → Claim (opened hs bs next)
+  opened-so [] bs next h = h bs refl
+  opened-so (x ∷ hs) [] next h = refusal _ tt
+  opened-so (x ∷ hs) (b ∷ bs) next h =
+      must-so (eqb b x) _ _ tt (λ same. opened-so hs bs next (λ rest e. h rest (λ i. eqb-true b x same i ∷ e i)))
+
+  cut-claim : (c : ℕ) (bs : Bytes) (step : Cut → Step) → Claim (step absent) → ((p rest : Bytes) → bs ≡ p ++ (c ∷ rest) → Claim (step (found p rest))) → Claim (step (cut c bs))
+  cut-claim c bs step none-found h = by (cut c bs) (cut-so c bs)
+    where
+      by : (k : Cut) → CutSo c bs k → Claim (step k)
+      by (found p rest) so = h p rest (so .bytes)
+      by absent so = none-found
+
+  valued-so : (test : Bytes → Bool) (bs : Bytes) (next : Bytes → Bytes → Step) → ((v rest : Bytes) → bs ≡ v ++ (GS ∷ rest) → test v ≡ true → Claim (next v rest)) → Claim (valued test bs next)
+  valued-so test bs next h = cut-claim GS bs (valuedAt test next) (refusal _ tt) (λ v rest e. must-so (test v) _ _ tt (h v rest e))
+
+  bodied-so : (permitted : ℕ → Bool) (rules : Bytes → Bool) (made : Bytes → Envelope) (bs : Bytes)
+      → ((body left : Bytes) → bs ≡ body ++ (RS ∷ left) → every permitted body ≡ true → rules body ≡ true → Claim (closed (made body) left))
+      → Claim (bodied permitted rules made bs)
+  unfolding bodied
+  bodied-so permitted rules made bs h =
+      cut-claim RS bs (bodyAt permitted rules made) (refusal _ tt)
+      (λ body left e. must-so (every permitted body) _ _ tt (λ p. must-so (rules body) _ _ tt (λ r. h body left e p r)))
+
+-- What a step says of the bytes at which an envelope is due
+
+pub record ClosedSo (edition : Edition) (first : Bool) (bs : Bytes) (e : Envelope) (left : Bytes) : Type 0 where
+  pub within : Within edition e
+  pub notRest : isRest e ≡ false
+  pub inPlace : (first || not (isTransport e)) ≡ true
+  pub bytes : bs ≡ bytesOf (parts e) ++ (RS ∷ left)
+
+pub record WholeSo (edition : Edition) (first : Bool) (bs : Bytes) (e : Envelope) : Type 0 where
+  pub within : Within edition e
+  pub takesRest : isRest e ≡ true
+  pub isFirst : first ≡ true
+  pub bytes : bs ≡ bytesOf (parts e)
+
+abbrev pub StepSo : Edition → Bool → Bytes → Step → Type 0
+StepSo edition first bs (closed e left) = ClosedSo edition first bs e left
+StepSo edition first bs (whole e) = WholeSo edition first bs e
+StepSo edition first bs (refuse r) = OfEnvelope r
+
+-- behind its indicator an envelope is its header and body
+bytes-closed : (e : Envelope) (bs left : Bytes) → bs ≡ contentBytes e ++ (RS ∷ left) → twoDigits (formatOf e) ++ bs ≡ bytesOf (parts e) ++ (RS ∷ left)
+bytes-closed e bs left h = ap (λ r. twoDigits (formatOf e) ++ r) h ∙ sym (ap (λ r. r ++ (RS ∷ left)) (bytes-envelope e))
+
+or-true : (a : Bool) → (a || true) ≡ true
+or-true true = refl
+or-true false = refl
+
+same-bytes : (xs ys : Bytes) → sameBytes xs ys ≡ true → xs ≡ ys
+same-bytes [] [] h = refl
+same-bytes [] (y ∷ ys) h = absurd (false≢true h)
+same-bytes (x ∷ xs) [] h = absurd (false≢true h)
+same-bytes (x ∷ xs) (y ∷ ys) h =
+    let k = both (eqb x y) (sameBytes xs ys) h in
+    λ i. eqb-true x y (k .left) i ∷ same-bytes xs ys (k .right) i
+
+version-so : (bs : Bytes) (v : Version) → versionOf bs ≡ some v → bs ≡ versionDigits v
+unfolding versionOf
+version-so bs v h = by-tests (sameBytes bs (versionDigits version02)) (sameBytes bs (versionDigits version96)) refl refl h
+  where
+    by-tests : (s t : Bool) → sameBytes bs (versionDigits version02) ≡ s → sameBytes bs (versionDigits version96) ≡ t → cond s (some version02) (cond t (some version96) none) ≡ some v → bs ≡ versionDigits v
+    by-tests true t p q e = let is : version02 ≡ v = cc in same-bytes _ _ p ∙ ap versionDigits is
+    by-tests false true p q e = let is : version96 ≡ v = cc in same-bytes _ _ q ∙ ap versionDigits is
+    by-tests false false p q e = let z : _≡_ {A = ℕ} 0 1 = cc in absurd (omega arith)
+
+-- a payload of n bytes with RS behind it
+payload-at : (n : ℕ) (bs : Bytes) → n < length bs → getD bs n 0 ≡ RS → bs ≡ take n bs ++ (RS ∷ drop (n + 1) bs)
+payload-at n bs short is = split-at bs n 0 short ∙ (λ i. take n bs ++ (is i ∷ drop (sym (add-one n) i) bs))
+
+-- the header values of 09 one behind the other
+header-so : (t c n payload left bs bs₁ bs₂ bs₃ bs₄ : Bytes) → bs ≡ GS ∷ bs₁ → bs₁ ≡ t ++ (GS ∷ bs₂) → bs₂ ≡ c ++ (GS ∷ bs₃) → bs₃ ≡ n ++ (GS ∷ bs₄) → bs₄ ≡ payload ++ (RS ∷ left)
+    → bs ≡ (GS ∷ (t ++ (GS ∷ (c ++ (GS ∷ (n ++ (GS ∷ payload))))))) ++ (RS ∷ left)
+header-so t c n payload left bs bs₁ bs₂ bs₃ bs₄ e₀ e₁ e₂ e₃ e₄ = rw (e₀, e₁, e₂, e₃, e₄) (simp append-assoc)
+
+record AreSegments (isTag : Bytes → Bool) (body : Bytes) : Type 0 where
+  lastEmpty : lastIsEmpty (pieces FS body) ≡ true
+  oneOrMore : isEmpty (segmentsIn body) ≡ false
+  allTagged : every (tagged isTag) (segmentsIn body) ≡ true
+
+are-segments : (isTag : Bytes → Bool) (body : Bytes) → areSegments isTag body ≡ true → AreSegments isTag body
+unfolding areSegments
+are-segments isTag body h =
+    let k = both (lastIsEmpty (pieces FS body) && not (isEmpty (segmentsIn body))) (every (tagged isTag) (segmentsIn body)) h in
+    let l = both (lastIsEmpty (pieces FS body)) (not (isEmpty (segmentsIn body))) (k .left) in
+    record { lastEmpty = l .left; oneOrMore = not-true _ (l .right); allTagged = k .right }
+
+module _ (edition : Edition) (first : Bool) where
+  -- what is read behind a format's indicator
+  abbrev After : ℕ → Bytes → Step → Type 0
+  After f bs = StepSo edition first (twoDigits f ++ bs)
+
+  text-so : (permitted : ℕ → Bool) (f : ℕ) (bs : Bytes) → ruleOf edition f ≡ asText permitted → After f bs (readText permitted f bs)
+  unfolding readText
+  text-so permitted f bs known =
+      bodied-so (After f bs) (λ r why. why) permitted (λ body. true) (text f) bs
+      (λ body left e p r. record {
+        within = record { permitted = permitted; known = known; permittedBytes = p };
+        notRest = refl;
+        inPlace = or-true first;
+        bytes = bytes-closed (text f body) bs left e;
+      })
+
+  rest-so : (permitted : ℕ → Bool) (f : ℕ) (bs : Bytes) → ruleOf edition f ≡ asRest permitted → first ≡ true → After f bs (readRest permitted f bs)
+  unfolding readRest
+  rest-so permitted f bs known isFirst =
+      must-so (After f bs) (λ r why. why) (not (isEmpty bs)) _ _ tt
+      (λ some. must-so (After f bs) (λ r why. why) (every permitted bs) _ _ tt
+      (λ p. record {
+        within = record { permitted = permitted; known = known; notEmpty = not-true (isEmpty bs) some; permittedBytes = p };
+        takesRest = refl;
+        isFirst = isFirst;
+        bytes = sym (bytes-envelope (wholeRest f bs));
+      }))
+
+  -- a body of pieces between GS
+  plain-pieces : (body : Bytes) → every plainOrGS body ≡ true → every (every plain) (pieces GS body) ≡ true
+  unfolding plainOrGS
+  plain-pieces body p = every-pieces plainOrGS plain GS (λ b. or-not (plain b) (eqb b GS)) body p
+
+  elements-so : (isElement : Bytes → Bool) (f : ℕ) (bs : Bytes) → ruleOf edition f ≡ asElements isElement → After f bs (readElements isElement f bs)
+  unfolding readElements
+  elements-so isElement f bs known =
+      opened-so (After f bs) (λ r why. why) (GS ∷ []) bs _ λ after opens.
+      bodied-so (After f bs) (λ r why. why) plainOrGS (λ body. every isElement (pieces GS body)) (λ body. elements f (pieces GS body)) after
+      λ body left e p r. record {
+        within = record { isElement = isElement; known = known; oneOrMore = pieces-some GS body; plainBytes = plain-pieces body p; asStated = r };
+        notRest = refl;
+        inPlace = or-true first;
+        bytes = bytes-closed (elements f (pieces GS body)) bs left (opens ∙ ap (λ x. GS ∷ x) (e ∙ ap (λ x. x ++ (RS ∷ left)) (sym (joined-pieces GS body))));
+      }
+
+  fields-so : (f : ℕ) (v : Version) (bs rest : Bytes) → ruleOf edition f ≡ asFields → first ≡ true → bs ≡ GS ∷ (versionDigits v ++ rest) → After f bs (readFields f (some v) rest)
+  unfolding readFields
+  fields-so f v bs rest known isFirst opens =
+      bodied-so (After f bs) (λ r why. why) plainOrGS (λ body. transport v (pieces GS body)) (λ body. fields f v (pieces GS body)) rest
+      λ body left e p r. record {
+        within = record { known = known; plainBytes = plain-pieces body p; asStated = r };
+        notRest = refl;
+        inPlace = or-left (not true) isFirst;
+        bytes = bytes-closed (fields f v (pieces GS body)) bs left
+            (opens ∙ ap (λ x. GS ∷ x) (ap (λ x. versionDigits v ++ x) (e ∙ ap (λ x. x ++ (RS ∷ left)) (sym (joined-pieces GS body))) ∙ sym (append-assoc (versionDigits v) (joined GS (pieces GS body)) (RS ∷ left))));
+      }
+
+  transport-so : (f : ℕ) (bs : Bytes) → ruleOf edition f ≡ asFields → first ≡ true → After f bs (readTransport f bs)
+  unfolding readTransport readFields
+  transport-so f bs known isFirst =
+      opened-so (After f bs) (λ r why. why) (GS ∷ []) bs _ λ after opens.
+      by-version after opens (versionOf (take 2 after)) refl
+    where
+      by-version : (after : Bytes) → bs ≡ GS ∷ after → (o : Option Version) → versionOf (take 2 after) ≡ o → After f bs (readFields f o (drop 2 after))
+      by-version after opens none e = tt
+      by-version after opens (some v) e =
+          fields-so f v bs (drop 2 after) known isFirst
+          (opens ∙ ap (λ x. GS ∷ x) (sym (take-append-drop 2 after) ∙ ap (λ x. x ++ drop 2 after) (version-so (take 2 after) v e)))
+
+  counted-so : (f : ℕ) (bs : Bytes) → ruleOf edition f ≡ asCounted → After f bs (readCounted f bs)
+  unfolding readCounted readPayload
+  counted-so f bs known =
+      opened-so (After f bs) (λ r why. why) (GS ∷ []) bs _ λ bs₁ e₀.
+      valued-so (After f bs) (λ r why. why) payloadType bs₁ _ λ t bs₂ e₁ isType.
+      valued-so (After f bs) (λ r why. why) compression bs₂ _ λ c bs₃ e₂ isCompression.
+      valued-so (After f bs) (λ r why. why) count bs₃ _ λ n bs₄ e₃ isCount.
+      must-so (After f bs) (λ r why. why) (ltb (value n) (length bs₄) && eqb (getD bs₄ (value n) 0) RS) _ _ tt λ fits.
+      let k = both (ltb (value n) (length bs₄)) (eqb (getD bs₄ (value n) 0) RS) fits in
+      let short = ltb-true (value n) (length bs₄) (k .left) in
+      record {
+        within = record { known = known; isType = isType; isCompression = isCompression; isCount = isCount; counts = sym (length-take-le (value n) bs₄ (omega arith)) };
+        notRest = refl;
+        inPlace = or-true first;
+        bytes = bytes-closed (counted f t c n (take (value n) bs₄)) bs (drop (value n + 1) bs₄)
+            (header-so t c n (take (value n) bs₄) (drop (value n + 1) bs₄) bs bs₁ bs₂ bs₃ bs₄ e₀ e₁ e₂ e₃ (payload-at (value n) bs₄ short (eqb-true _ _ (k .right))));
+      }
+
+  segments-so : (isTag : Bytes → Bool) (f : ℕ) (bs : Bytes) → ruleOf edition f ≡ asSegments isTag → After f bs (readSegments isTag f bs)
+  unfolding readSegments
+  segments-so isTag f bs known =
+      must-so (After f bs) (λ r why. why) (release (take releaseLength bs)) _ _ tt λ isRelease.
+      opened-so (After f bs) (λ r why. why) (FS ∷ GS ∷ US ∷ []) (drop releaseLength bs) _ λ after opens.
+      bodied-so (After f bs) (λ r why. why) segmentByte (areSegments isTag) (λ body. segments f (take releaseLength bs) (segmentsIn body)) after
+      λ body left e p r.
+      let so = are-segments isTag body r in
+      record {
+        within = record { isTag = isTag; known = known; sixBytes = isRelease; oneOrMore = so .oneOrMore; plainBytes = plain-segments body p; allTagged = so .allTagged };
+        notRest = refl;
+        inPlace = or-true first;
+        bytes = bytes-closed (segments f (take releaseLength bs) (segmentsIn body)) bs left
+            (sym (take-append-drop releaseLength bs)
+            ∙ ap (λ x. take releaseLength bs ++ x) (opens ∙ ap (λ x. FS ∷ (GS ∷ (US ∷ x))) (e ∙ ap (λ x. x ++ (RS ∷ left)) (sym (segments-back body (so .lastEmpty)))))
+            ∙ sym (append-assoc (take releaseLength bs) (FS ∷ (GS ∷ (US ∷ terminated FS (map segmentBytes (segmentsIn body))))) (RS ∷ left)));
+      }
+
+  by-so : (rule : Rule) (f : ℕ) (bs : Bytes) → ruleOf edition f ≡ rule → After f bs (readBy rule first f bs)
+  unfolding readBy
+  by-so asFields f bs known = must-so (After f bs) (λ r why. why) first _ _ tt (transport-so f bs known)
+  by-so (asRest permitted) f bs known = must-so (After f bs) (λ r why. why) first _ _ tt (rest-so permitted f bs known)
+  by-so (asSegments isTag) f bs known = segments-so isTag f bs known
+  by-so (asElements isElement) f bs known = elements-so isElement f bs known
+  by-so (asText permitted) f bs known = text-so permitted f bs known
+  by-so asCounted f bs known = counted-so f bs known
+  by-so unknown f bs known = tt
+
+-- what is answered where an envelope is due
+pub step-so : (edition : Edition) (first : Bool) (bs : Bytes) → StepSo edition first bs (readEnvelope edition first bs)
+unfolding readEnvelope
+step-so edition first [] = tt
+step-so edition first (a ∷ []) = tt
+step-so edition first (a ∷ (b ∷ bs)) =
+    must-so (StepSo edition first (a ∷ (b ∷ bs))) (λ r why. why) (digit a && digit b) _ _ tt λ digits.
+    let k = both (digit a) (digit b) digits in
+    let f = value (a ∷ b ∷ []) in
+    subst (λ (two : Bytes). StepSo edition first (two ++ bs) (readBy (ruleOf edition f) first f bs)) (digits-two a b (k .left) (k .right))
+    (by-so edition first (ruleOf edition f) f bs refl)
