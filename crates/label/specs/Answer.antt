@@ -11,7 +11,7 @@ use Rattle.label.specs.declared.Reading.the-variants.{Accepted, Refused}
 use Rattle.label.specs.Bytes.{Bytes}
 use Rattle.label.specs.Limits.{mostRows, rowWidth}
 use Rattle.label.specs.Formats.{Edition}
-use Rattle.label.specs.Layout.{numbers, allNumbers}
+use Rattle.label.specs.Layout.{Row, numbers, allNumbers}
 use Rattle.label.specs.Message.{rowsOf}
 use Rattle.label.specs.ReadMessage.{Outcome, read, refused, reading}
 
@@ -67,10 +67,11 @@ filled table (refused reason place) = table
 unfoldable pub tableAfter : Edition → Bytes → List ℕ → List ℕ
 tableAfter edition m table = filled table (reading edition m)
 
--- the lines that the printing program writes (01, Cartons to try): the answer with room for the most rows, then the rows
-abbrev pub rowLines : Outcome → List (List ℕ)
-rowLines (read es) = map numbers (rowsOf es)
-rowLines (refused reason place) = []
+-- the rows that are read: of an accepted message its rows, of a refused one none
+abbrev pub rowsRead : Outcome → List Row
+rowsRead (read es) = rowsOf es
+rowsRead (refused reason place) = []
 
+-- the lines that the printing program writes (01, Cartons to try): the answer with room for the most rows, then the rows
 unfoldable pub printed : Edition → Bytes → List (List ℕ)
-printed edition m = readAnswer edition m mostRows ∷ rowLines (reading edition m)
+printed edition m = readAnswer edition m mostRows ∷ map numbers (rowsRead (reading edition m))

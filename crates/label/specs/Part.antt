@@ -4,8 +4,8 @@ use mathlib.Core.List.{List, [], _∷_}
 use Rattle.label.specs.Bytes.{Bytes}
 use Rattle.label.specs.Formats.{Edition}
 use Rattle.label.specs.Layout.{Row}
-use Rattle.label.specs.Message.{rowsOf}
-use Rattle.label.specs.ReadMessage.{Outcome, read, refused, reading}
+use Rattle.label.specs.ReadMessage.{reading}
+use Rattle.label.specs.Answer.{rowsRead}
 
 -- a stretch of a message
 pub record Stretch : Type 0 where
@@ -22,10 +22,6 @@ stretchAt [] n = emptyStart
 stretchAt (r ∷ rs) zero = record { start = r .start; length = r .length }
 stretchAt (r ∷ rs) (suc n) = stretchAt rs n
 
-abbrev pub stretchIn : Outcome → ℕ → Stretch
-stretchIn (read es) n = stretchAt (rowsOf es) n
-stretchIn (refused reason place) n = emptyStart
-
 -- the part of a message for row n, read with ample room: the most rows that a message may have
 unfoldable pub partOf : Edition → Bytes → ℕ → Stretch
-partOf edition m n = stretchIn (reading edition m) n
+partOf edition m n = stretchAt (rowsRead (reading edition m)) n
