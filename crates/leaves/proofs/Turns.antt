@@ -1,13 +1,13 @@
 -- One turn of a loop over bytes: what a test of all, a search and a tally say of the bytes from an index on, by the byte at the index and those behind it.
-use Prim.Native.Nat.{ℕ, zero, suc, _+_, _≤_, _<_}
+use Prim.Native.Nat.{ℕ, zero, suc, _+_, _-_, _≤_, _<_}
 use mathlib.Core.Path.{_≡_, refl, sym, ap, _∙_}
 use mathlib.Core.Bool.{Bool, true, false, _&&_, cond}
 use mathlib.Core.List.{List, [], _∷_}
 use native.Mathlib.Omega.{arith}
 use native.Mathlib.Numerals.{add-one}
 use borrow.Author.Tests.{eq-eqb, ne-eqb}
-use lib.ListN.{length, getD, drop}
-use lib.Seq.{drop-cons}
+use lib.ListN.{length, getD, take, drop, length-drop}
+use lib.Seq.{drop-cons, take-all}
 use Rattle.label.specs.Bytes.{Bytes, every}
 use Rattle.leaves.specs.Seek.{seek, tallyOf}
 
@@ -20,11 +20,11 @@ drop-past [] (suc i) past = refl
 drop-past (x ∷ s) zero past = absurd (omega arith)
 drop-past (x ∷ s) (suc i) past = drop-past s i (omega arith)
 
-and-assoc : (a b c : Bool) → (a && (b && c)) ≡ ((a && b) && c)
+pub and-assoc : (a b c : Bool) → (a && (b && c)) ≡ ((a && b) && c)
 and-assoc true b c = refl
 and-assoc false b c = refl
 
-and-true : (a : Bool) → (a && true) ≡ a
+pub and-true : (a : Bool) → (a && true) ≡ a
 and-true true = refl
 and-true false = refl
 
@@ -51,3 +51,7 @@ tally-on c s i inside not = ap (tallyOf c) (drop-step s i inside) ∙ ap (λ t. 
 
 pub tally-past : (c : ℕ) (s : Bytes) (i : ℕ) → length s ≤ i → tallyOf c (drop i s) ≡ 0
 tally-past c s i past = ap (tallyOf c) (drop-past s i past)
+
+-- a part that runs to the end
+pub take-rest : {A : Type 0} (s : List A) (i : ℕ) → take (length s - i) (drop i s) ≡ drop i s
+take-rest s i = take-all (length s - i) (drop i s) (omega (arith, length-drop i s))

@@ -1,0 +1,82 @@
+-- The bodies that run to an RS, by what their formats ask of them: permitted bytes, rules, and how many rows they have.
+use Prim.Native.Nat.{ℕ, _+_, _-_}
+use mathlib.Core.Bool.{Bool, true, not, _&&_, _||_}
+use mathlib.Core.List.{List, [], _∷_}
+use lib.ListN.{length, take, getD}
+use lib.Dec.{leb, ltb, eqb}
+use Rattle.label.specs.Bytes.{Bytes, FS, GS, US, plain, every, isEmpty}
+use Rattle.label.specs.Pieces.{pieces, lastIsEmpty}
+use Rattle.label.specs.Limits.{limitOf, longAs}
+use Rattle.label.specs.Values.{version02, version96}
+use Rattle.label.specs.Elements.{element05, element06}
+use Rattle.label.specs.Segments.{tag, tag03}
+use Rattle.label.specs.Fields.{fieldBytes, leastFields, field, transport}
+use Rattle.label.specs.Formats.{textByte}
+use Rattle.label.specs.ReadEnvelope.{plainOrGS, segmentByte, areSegments}
+use Rattle.leaves.specs.Seek.{seek, tallyOf}
+use Rattle.bodies.specs.declared.Kind.{Kind}
+use Rattle.bodies.specs.declared.Kind.the-variants.{Fields02, Fields96, Segments03, Segments04, Elements05, Elements06, Text}
+
+abbrev pub permittedOf : Kind → ℕ → Bool
+permittedOf Fields02 = plainOrGS
+permittedOf Fields96 = plainOrGS
+permittedOf Segments03 = segmentByte
+permittedOf Segments04 = segmentByte
+permittedOf Elements05 = plainOrGS
+permittedOf Elements06 = plainOrGS
+permittedOf Text = textByte
+
+abbrev pub rulesOf : Kind → Bytes → Bool
+rulesOf Fields02 body = transport version02 (pieces GS body)
+rulesOf Fields96 body = transport version96 (pieces GS body)
+rulesOf Segments03 body = areSegments tag03 body
+rulesOf Segments04 body = areSegments tag body
+rulesOf Elements05 body = every element05 (pieces GS body)
+rulesOf Elements06 body = every element06 (pieces GS body)
+rulesOf Text body = true
+
+-- how many rows a body has: one for each piece, or for the whole
+abbrev pub rowsOfBody : Kind → Bytes → ℕ
+rowsOfBody Fields02 body = tallyOf GS body + 1
+rowsOfBody Fields96 body = tallyOf GS body + 1
+rowsOfBody Segments03 body = tallyOf FS body + tallyOf GS body + tallyOf US body
+rowsOfBody Segments04 body = tallyOf FS body + tallyOf GS body + tallyOf US body
+rowsOfBody Elements05 body = tallyOf GS body + 1
+rowsOfBody Elements06 body = tallyOf GS body + 1
+rowsOfBody Text body = 1
+
+-- a field by the row of its version in the limits
+abbrev pub fieldIn : ℕ → ℕ → Bytes → Bool
+fieldIn row i bs = longAs (limitOf row i) bs && getD fieldBytes i (every plain) bs || leb leastFields i && isEmpty bs
+
+-- at which byte a body is cut into pieces, and what is asked of the piece with an index
+abbrev pub separatorOf : Kind → ℕ
+separatorOf Fields02 = GS
+separatorOf Fields96 = GS
+separatorOf Segments03 = FS
+separatorOf Segments04 = FS
+separatorOf Elements05 = GS
+separatorOf Elements06 = GS
+separatorOf Text = GS
+
+abbrev pub pieceTest : Kind → ℕ → Bytes → Bool
+pieceTest Fields02 i p = field version02 i p
+pieceTest Fields96 i p = field version96 i p
+pieceTest Segments03 i p = tag03 (take (seek GS p) p)
+pieceTest Segments04 i p = tag (take (seek GS p) p)
+pieceTest Elements05 i p = element05 p
+pieceTest Elements06 i p = element06 p
+pieceTest Text i p = true
+
+-- a test of each piece and its index, from an index on
+abbrev pub everyFrom : (ℕ → Bytes → Bool) → ℕ → List Bytes → Bool
+everyFrom test i [] = true
+everyFrom test i (p ∷ ps) = test i p && everyFrom test (i + 1) ps
+
+-- fields by how many separators there are, each one's test, and whether the last is empty
+abbrev pub fieldsOf : (ℕ → Bytes → Bool) → ℕ → List Bytes → Bytes → Bool
+fieldsOf test most ps body = leb 4 (tallyOf GS body) && ltb (tallyOf GS body) most && everyFrom test 0 ps && (eqb (tallyOf GS body) 4 || not (lastIsEmpty (pieces GS body)))
+
+-- segments by the last byte, and each one's test
+abbrev pub segmentsOf : (ℕ → Bytes → Bool) → ℕ → Bytes → Bool
+segmentsOf test c body = not (eqb (length body) 0) && lastIsEmpty (pieces FS body) && everyFrom test 0 (pieces c (take (length body - 1) body))

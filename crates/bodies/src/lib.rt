@@ -1,0 +1,162 @@
+// Whether a body keeps its format's rules (01, Envelope rules and Transport fields), and how many rows it has. A body is the stretch
+// before an RS whose bytes are permitted; the functions take every stretch.
+mod elements;
+mod fields;
+mod segments;
+
+use leaves::Class;
+use leaves::FS;
+use leaves::GS;
+use leaves::US;
+ghost use mathlib.Core.Path.{_≡_};
+ghost use Rattle.label.specs.Pieces.{pieces, lastIsEmpty};
+ghost use Rattle.leaves.specs.Classes.{classOf};
+ghost use Rattle.bodies.specs.Kinds.{permittedOf, rulesOf, rowsOfBody, separatorOf, pieceTest, everyFrom, fieldsOf, segmentsOf};
+
+// A body that runs to an RS, by its format, and for 01 its version.
+pub enum Kind {
+    Fields02,
+    Fields96,
+    Segments03,
+    Segments04,
+    Elements05,
+    Elements06,
+    Text,
+}
+
+// The class of the bytes that are permitted.
+pub fn permitted(k: Kind) -> Class
+    ensures { λ r. ⌜ classOf r ≡ permittedOf k ⌝ }
+{
+    match k {
+        Kind::Fields02 => Class::PlainOrGs,
+        Kind::Fields96 => Class::PlainOrGs,
+        Kind::Segments03 => Class::SegmentByte,
+        Kind::Segments04 => Class::SegmentByte,
+        Kind::Elements05 => Class::PlainOrGs,
+        Kind::Elements06 => Class::PlainOrGs,
+        Kind::Text => Class::TextByte,
+    }
+}
+
+// At which byte a body is cut into pieces.
+fn separator(k: Kind) -> u8
+    ensures { λ r. ⌜ r ≡ separatorOf k ⌝ }
+{
+    match k {
+        Kind::Fields02 => GS,
+        Kind::Fields96 => GS,
+        Kind::Segments03 => FS,
+        Kind::Segments04 => FS,
+        Kind::Elements05 => GS,
+        Kind::Elements06 => GS,
+        Kind::Text => GS,
+    }
+}
+
+// What is asked of the piece with an index.
+fn piece_holds(k: Kind, i: usize, p: &[u8]) -> bool
+    ensures { λ r. ⌜ r ≡ pieceTest k i (now (p .entry)) ⌝ }
+{
+    match k {
+        Kind::Fields02 => fields::field_holds(0, i, p),
+        Kind::Fields96 => fields::field_holds(1, i, p),
+        Kind::Segments03 => segments::segment_03(p),
+        Kind::Segments04 => segments::segment_04(p),
+        Kind::Elements05 => elements::element_05(p),
+        Kind::Elements06 => elements::element_06(p),
+        Kind::Text => true,
+    }
+}
+
+// Whether each piece is as asked: one sweep, a piece a turn.
+fn pieces_hold(k: Kind, s: &[u8]) -> bool
+    ensures { λ r. ⌜ r ≡ everyFrom (pieceTest k) 0 (pieces (separatorOf k) (now (s .entry))) ⌝ }
+{
+    let c = separator(k);
+    let mut ok = true;
+    let mut i = 0;
+    let mut at = 0;
+    while at <= s.len() {
+        let end = leaves::find(s, at, c);
+        ok = ok & piece_holds(k, i, &s[at..end]);
+        i += 1;
+        at = end + 1;
+    }
+    ok
+}
+
+// Whether the last piece is empty: there are no bytes, or the last is the separator.
+fn last_empty(s: &[u8], c: u8) -> bool
+    ensures { λ r. ⌜ r ≡ lastIsEmpty (pieces c (now (s .entry))) ⌝ }
+{
+    if s.len() == 0 {
+        return true;
+    }
+    let last = s.len() - 1;
+    s[last] == c
+}
+
+// Fields of a version: five at least, not too many, each as stated, and past the fifth the last not empty.
+fn fields_hold(k: Kind, most: usize, body: &[u8]) -> bool
+    ensures { λ r. ⌜ r ≡ fieldsOf (pieceTest k) most (pieces (separatorOf k) (now (body .entry))) (now (body .entry)) ⌝ }
+{
+    let gs = leaves::tally(body, GS);
+    let all = pieces_hold(k, body);
+    let ends = last_empty(body, GS);
+    (4 <= gs) & (gs < most) & all & ((gs == 4) | !ends)
+}
+
+// Segments: one or more, each ended by FS, each with its tag.
+fn segments_hold(k: Kind, body: &[u8]) -> bool
+    ensures { λ r. ⌜ r ≡ segmentsOf (pieceTest k) (separatorOf k) (now (body .entry)) ⌝ }
+{
+    if body.len() == 0 {
+        return false;
+    }
+    if !last_empty(body, FS) {
+        return false;
+    }
+    let last = body.len() - 1;
+    pieces_hold(k, &body[..last])
+}
+
+// Whether a body keeps its format's rules.
+pub fn rules_hold(k: Kind, body: &[u8]) -> bool
+    ensures { λ r. ⌜ r ≡ rulesOf k (now (body .entry)) ⌝ }
+{
+    match k {
+        Kind::Fields02 => fields_hold(k, 15, body),
+        Kind::Fields96 => fields_hold(k, 14, body),
+        Kind::Segments03 => segments_hold(k, body),
+        Kind::Segments04 => segments_hold(k, body),
+        Kind::Elements05 => pieces_hold(k, body),
+        Kind::Elements06 => pieces_hold(k, body),
+        Kind::Text => true,
+    }
+}
+
+// How many rows a body of segments has: one for a tag, and one behind each GS and US.
+fn segment_rows(body: &[u8]) -> usize
+    ensures { λ r. ⌜ r ≡ rowsOfBody Kind.Segments03 (now (body .entry)) ⌝ }
+{
+    let fs = leaves::tally(body, FS);
+    let gs = leaves::tally(body, GS);
+    let us = leaves::tally(body, US);
+    fs + gs + us
+}
+
+// How many rows a body has.
+pub fn rows_in(k: Kind, body: &[u8]) -> usize
+    ensures { λ r. ⌜ r ≡ rowsOfBody k (now (body .entry)) ⌝ }
+{
+    match k {
+        Kind::Fields02 => leaves::tally(body, GS) + 1,
+        Kind::Fields96 => leaves::tally(body, GS) + 1,
+        Kind::Segments03 => segment_rows(body),
+        Kind::Segments04 => segment_rows(body),
+        Kind::Elements05 => leaves::tally(body, GS) + 1,
+        Kind::Elements06 => leaves::tally(body, GS) + 1,
+        Kind::Text => 1,
+    }
+}
