@@ -113,7 +113,7 @@ same-bytes (x ∷ xs) (y ∷ ys) h =
     let k = both (eqb x y) (sameBytes xs ys) h in
     λ i. eqb-true x y (k .left) i ∷ same-bytes xs ys (k .right) i
 
-version-so : (bs : Bytes) (v : Version) → versionOf bs ≡ some v → bs ≡ versionDigits v
+pub version-so : (bs : Bytes) (v : Version) → versionOf bs ≡ some v → bs ≡ versionDigits v
 unfolding versionOf
 version-so bs v h = by-tests (sameBytes bs (versionDigits version02)) (sameBytes bs (versionDigits version96)) refl refl h
   where

@@ -110,7 +110,7 @@ place-for edition m r p (tooManyRows why place es writes many) = for-reason edit
 
 -- and so it lies in the message or at its end
 
-agreement-inside : (h m : Bytes) → agreement h m ≤ length m
+pub agreement-inside : (h m : Bytes) → agreement h m ≤ length m
 agreement-inside [] m = omega arith
 agreement-inside (h ∷ hs) [] = omega arith
 agreement-inside (h ∷ hs) (b ∷ bs) = by (eqb b h) (agreement-inside hs bs)

@@ -27,7 +27,7 @@ agreement-by true h b hs bs is agrees later = λ i. eqb-true b h is i ∷ later 
 agreement-by false h b hs bs is agrees later = absurd (omega arith)
 
 -- bytes that agree with all of a header begin with it
-begins : (h m : Bytes) → length h ≤ agreement h m → m ≡ h ++ drop (length h) m
+pub begins : (h m : Bytes) → length h ≤ agreement h m → m ≡ h ++ drop (length h) m
 begins [] m agrees = refl
 begins (h ∷ hs) [] agrees = absurd (omega arith)
 begins (h ∷ hs) (b ∷ bs) agrees = agreement-by (eqb b h) h b hs bs refl agrees (begins hs bs)

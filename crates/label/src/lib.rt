@@ -3,6 +3,11 @@
 ghost use mathlib.Core.Path.{_≡_};
 ghost use Rattle.label.specs.Limits.{limitOf};
 
+// The most bytes and the most rows in a message (01, Rows).
+pub const LONGEST: usize = 4096;
+
+pub const MOST_ROWS: usize = 1024;
+
 // Why a message is refused: 'Numbers for the receiving desk', in its order. `number` of specs/Answer has each one's number.
 pub enum Reason {
     TooLong,

@@ -1,0 +1,9 @@
+pub mod BodyLaws
+pub mod HeaderLaws
+pub mod ValueLaws
+pub mod FormatTests
+pub mod RowCounts
+pub mod FormatLaws
+pub mod RowBounds
+pub mod WalkLaws
+pub mod JudgeLaws

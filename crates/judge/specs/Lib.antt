@@ -1,0 +1,5 @@
+pub mod Shown
+pub mod Headers
+pub mod Bodies
+pub mod Formats
+pub mod Turns

@@ -1,0 +1,105 @@
+// Indicators and header values.
+use leaves::Class;
+use leaves::GS;
+ghost use mathlib.Core.Path.{_≡_};
+ghost use Prim.Native.Nat.{_-_, _≤_};
+ghost use lib.ListN.{length, drop};
+ghost use Rattle.label.specs.Values.{value};
+ghost use Rattle.label.specs.ReadMessage.{agreement};
+ghost use Rattle.leaves.specs.Classes.{classOf};
+ghost use Rattle.judge.specs.Headers.{decimalOf, indicatorOf, valueEnd};
+
+// What a digit is worth, or 10 where a byte is none.
+fn decimal(b: u8) -> usize
+    ensures { λ r. ⌜ r ≡ decimalOf b ⌝ }
+{
+    if b < 0x30 {
+        return 10;
+    }
+    if 0x39 < b {
+        return 10;
+    }
+    (b - 0x30) as usize
+}
+
+// The number of the indicator at an offset, or 100 where there is none.
+pub fn indicator(m: &[u8], at: usize) -> usize
+    ensures { λ r. ⌜ r ≡ indicatorOf (drop at (now (m .entry))) ⌝ }
+{
+    if m.len() < 2 {
+        return 100;
+    }
+    if m.len() - 2 < at {
+        return 100;
+    }
+    let tens = decimal(m[at]);
+    let units = decimal(m[at + 1]);
+    if 9 < tens {
+        return 100;
+    }
+    if 9 < units {
+        return 100;
+    }
+    tens * 10 + units
+}
+
+// How many bytes from an offset on agree with a text, from its first on.
+pub fn agree(m: &[u8], at: usize, text: &[u8]) -> usize
+    requires { ⌜ at ≤ length (now m) ⌝ }
+    ensures { λ r. ⌜ r ≡ agreement (now (text .entry)) (drop at (now (m .entry))) ⌝ }
+{
+    let mut i = 0;
+    while i < text.len() {
+        if m.len() - at <= i {
+            return i;
+        }
+        if m[at + i] != text[i] {
+            return i;
+        }
+        i += 1;
+    }
+    i
+}
+
+// Where a header value of 09 ends that begins at an offset: at the next GS, if its length and bytes are as they should; else the length.
+pub fn value_end(m: &[u8], at: usize, least: usize, most: usize, k: Class) -> usize
+    requires { ⌜ at ≤ length (now m) ⌝ }
+    ensures { λ r. ⌜ r ≡ valueEnd least most (classOf k) (now (m .entry)) at ⌝ }
+{
+    let end = leaves::find(m, at, GS);
+    if m.len() <= end {
+        return m.len();
+    }
+    let size = end - at;
+    if (size < least) | (most < size) {
+        return m.len();
+    }
+    if leaves::all_in(k, &m[at..end]) {
+        return end;
+    }
+    m.len()
+}
+
+// The number that at most fifteen digits make.
+pub fn digits_value(s: &[u8]) -> usize
+    requires { ⌜ length (now s) ≤ 15 ⌝ }
+    ensures { λ r. ⌜ r ≡ value (now (s .entry)) ⌝ }
+{
+    let mut n = 0;
+    let mut i = 0;
+    while i < s.len() {
+        n = n * 10 + worth(s[i]);
+        i += 1;
+    }
+    n
+}
+
+// What a byte adds to a number: its distance from `0`.
+fn worth(b: u8) -> usize
+    ensures { λ r. ⌜ r ≡ b - 0x30 ⌝ }
+{
+    if b < 0x30 {
+        return 0;
+    }
+    (b - 0x30) as usize
+}

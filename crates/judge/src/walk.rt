@@ -1,0 +1,85 @@
+// The walk over a message's envelopes from the left.
+use crate::Found;
+use crate::State;
+use crate::Turn;
+use crate::judge_envelope;
+use label::Counts;
+use label::Reading;
+use label::Reason;
+use label::Refusal;
+use leaves::EOT;
+ghost use mathlib.Core.Path.{_≡_};
+ghost use mathlib.Core.Bool.{true};
+ghost use Prim.Native.Nat.{_≤_};
+ghost use lib.ListN.{length, drop};
+ghost use Rattle.label.specs.Formats.{edition2005};
+ghost use Rattle.label.proofs.Walk.{walked};
+ghost use Rattle.judge.specs.Shown.{tallied};
+ghost use Rattle.judge.specs.Turns.{Sound, TurnSo, boundaryTurn};
+
+fn refused(reason: Reason, place: usize) -> Turn
+    ensures { λ r. ⌜ r ≡ Turn.Done (Reading.Refused (record { reason = reason; place = place })) ⌝ }
+{
+    Turn::Done(Reading::Refused(Refusal { reason, place }))
+}
+
+// At a boundary after an envelope, with the counts so far: 4, then EOT with 5, then the next envelope.
+fn boundary(m: &[u8], at: usize, envelopes: usize, rows: usize) -> Turn
+    requires { ⌜ at ≤ length (now m) ⌝ }
+    ensures { λ r. ⌜ r ≡ boundaryTurn (now (m .entry)) at envelopes rows ⌝ }
+{
+    if m.len() <= at {
+        return refused(Reason::NoTrailer, at);
+    }
+    if m[at] != EOT {
+        return Turn::Go(State {
+            at,
+            first: false,
+            envelopes,
+            rows,
+        });
+    }
+    if m.len() <= at + 1 {
+        return Turn::Done(Reading::Accepted(Counts { envelopes, rows }));
+    }
+    refused(Reason::BytesAfterTrailer, at + 1)
+}
+
+// One envelope, and what follows it.
+fn turn(m: &[u8], s: State) -> Turn
+    requires { ⌜ Sound (now m) s ⌝ }
+    ensures { λ r. ⌜ TurnSo (now (m .entry)) s r ⌝ }
+{
+    let at = s.at;
+    let envelopes = s.envelopes;
+    let rows = s.rows;
+    let found = judge_envelope(m, at, s.first);
+    match found {
+        Found::Refused(reason) => refused(reason, at),
+        Found::Whole(n) => Turn::Done(Reading::Accepted(Counts {
+            envelopes: envelopes + 1,
+            rows: rows + n,
+        })),
+        Found::Closed(next, n) => boundary(m, next, envelopes + 1, rows + n),
+    }
+}
+
+// All envelopes from behind the header on.
+pub fn walk_envelopes(m: &[u8]) -> Reading
+    requires { ⌜ 4 ≤ length (now m) ⌝ }
+    ensures { λ r. ⌜ r ≡ tallied 0 0 (walked edition2005 (now (m .entry)) true (drop 4 (now (m .entry)))) ⌝ }
+{
+    let mut s = State {
+        at: 4,
+        first: true,
+        envelopes: 0,
+        rows: 0,
+    };
+    loop {
+        let t = turn(m, s);
+        match t {
+            Turn::Done(r) => return r,
+            Turn::Go(next) => s = next,
+        }
+    }
+}
