@@ -1,1 +1,5 @@
 pub mod Offsets
+pub mod Walks
+pub mod Shaped
+pub mod Enveloped
+pub mod Promises
