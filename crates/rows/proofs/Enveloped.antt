@@ -1,30 +1,27 @@
 -- The walk over an envelope within the rules, and over the envelopes of a message.
-use Prim.Native.Nat.{ℕ, _≤_}
+use Prim.Native.Nat.{_≤_}
 use mathlib.Core.Path.{_≡_, refl, sym, ap, _∙_, subst}
-use mathlib.Core.Bool.{Bool, true, false, not, _||_, cond, false≢true, true≢false}
+use mathlib.Core.Bool.{true, false, not, false≢true, true≢false}
 use mathlib.Core.List.{List, [], _∷_, _++_, map, append-assoc, append-nil}
-use lib.ListN.{length, drop}
-use lib.Dec.{leb}
-use borrow.Author.Tests.{leb-true}
 use native.Mathlib.Omega.{arith}
-use Rattle.label.specs.Bytes.{Bytes, EOT, FS, GS, RS, US, plain, capitalOrDigit, every, isEmpty}
+use borrow.Author.Tests.{leb-true}
+use lib.ListN.{length}
+use lib.Dec.{leb}
+use Rattle.label.specs.Bytes.{Bytes, EOT, FS, GS, RS, US, plain, capitalOrDigit, every}
 use Rattle.label.specs.Limits.{longest, longAs, _to_}
 use Rattle.label.specs.Values.{Version, version02, version96, versionDigits, releaseLength, release, payloadType, compression}
 use Rattle.label.specs.Fields.{transport}
-use Rattle.label.specs.Formats.{edition2005, ruleOf, asFields, asRest, asSegments, asElements, asText, asCounted}
-use Rattle.label.specs.Layout.{Part, mark, marks, bytesOf, rowsFrom, separated, ended}
+use Rattle.label.specs.Formats.{edition2005, asFields, asRest, asSegments, asElements, asText, asCounted}
+use Rattle.label.specs.Layout.{Part, mark, marks, bytesOf, separated, ended}
 use Rattle.label.specs.Envelope.{Envelope, fields, wholeRest, segments, elements, text, counted, Within}
 use Rattle.label.specs.Written.{valueRow, bodyRow, pieceRow, rowed, rowedEach, segmentParts, parts}
-use Rattle.label.specs.Message.{header, isRest, isRestAlone, messageParts, message, rowsOf, Each, Good}
-use Rattle.label.specs.ReadMessage.{Outcome, read, refused, reading}
-use Rattle.label.specs.Answer.{rowsRead}
+use Rattle.label.specs.Message.{isRest, Each}
 use Rattle.label.proofs.Tests.{both, free-of, not-true}
 use Rattle.label.proofs.EnvelopeComplete.{text-without}
-use Rattle.label.proofs.Promises.{accepted-is-good}
 use Rattle.leaves.specs.Seek.{seek}
 use Rattle.rows.specs.declared.Stage.the-variants.{VersionValue, ReleaseValue, TypeValue, CompressionValue, CountValue, Piece, Tag, Body}
-use Rattle.rows.specs.Cursors.{ahead, standing, plainRow, indicatorAt, opening, following, firstCursor}
-use Rattle.rows.proofs.Walks.{Yields, Leads, behind-bytes, ahead-bytes, marks-lead, mark-leads, row-yields}
+use Rattle.rows.specs.Cursors.{standing, plainRow, indicatorAt, opening, following}
+use Rattle.rows.proofs.Walks.{Leads, marks-lead, mark-leads, row-yields}
 use Rattle.rows.proofs.Shaped.{seek-stops, indicator-leads, pieces-lead, body-yields, segments-lead, value-leads, count-leads}
 
 version-wide : (v : Version) → 2 ≡ length (versionDigits v)

@@ -3,3 +3,4 @@ pub mod Walks
 pub mod Shaped
 pub mod Enveloped
 pub mod Promises
+pub mod Filling

@@ -1,15 +1,14 @@
 -- Laws of offsets: the offset so many bytes further, and one turn of a run of plain bytes and of a count, by the byte at an offset and those behind it.
 use Prim.Native.Nat.{ℕ, suc, _+_, _-_, _*_, _≤_, _<_}
 use mathlib.Core.Path.{_≡_, sym, ap, _∙_}
-use mathlib.Core.Bool.{Bool, true, false, cond}
-use mathlib.Core.List.{[], _∷_}
+use mathlib.Core.Bool.{Bool, true, cond}
 use native.Mathlib.Omega.{arith}
 use borrow.Author.Tests.{leb-true, lt-ltb, le-ltb}
-use lib.ListN.{length, getD, take, drop, length-take, length-drop}
+use lib.ListN.{length, getD, drop, length-take, length-drop}
 use lib.Dec.{leb, ltb}
 use Rattle.label.specs.Bytes.{Bytes, between, plain, digit}
 use Rattle.label.proofs.Tests.{both}
-use Rattle.leaves.proofs.Turns.{drop-step, drop-past}
+use Rattle.leaves.proofs.Turns.{drop-step}
 use Rattle.rows.specs.Cursors.{ahead, plainRun, countFrom}
 
 pub digit-value : (b : ℕ) → digit b ≡ true → (0x30 ≤ b) × (b ≤ 0x39)

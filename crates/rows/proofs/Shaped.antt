@@ -1,30 +1,30 @@
 -- The walk over an envelope of each shape: from its indicator it answers the envelope's rows and stands at the next indicator, from which it goes on.
-use Prim.Native.Nat.{ℕ, suc, _+_, _*_, _-_, _/_, _%_, _≤_, _<_}
+use Prim.Native.Nat.{ℕ, suc, _+_, _*_, _-_, _≤_, _<_}
 use mathlib.Core.Path.{_≡_, refl, sym, ap, _∙_, subst}
-use mathlib.Core.Bool.{Bool, true, false, not, _&&_, cond, false≢true, true≢false}
-use mathlib.Core.List.{List, [], _∷_, _++_, map, append-assoc, append-nil}
+use mathlib.Core.Bool.{Bool, true, false, not, cond, false≢true, true≢false}
+use mathlib.Core.List.{List, [], _∷_, _++_, map, append-assoc}
 use native.Mathlib.Omega.{arith}
 use borrow.Author.Tests.{le-leb, lt-ltb}
 use lib.ListN.{length, getD, take, drop, length-append, length-drop}
 use lib.Dec.{eqb, ltb}
 use Rattle.label.specs.Bytes.{Bytes, FS, GS, RS, US, plain, digit, between, every, isEmpty}
 use Rattle.label.specs.Limits.{longest, longAs, _to_}
-use Rattle.label.specs.Values.{Version, version02, version96, versionDigits, releaseLength, release, payloadType, compression, count, valueAfter, value}
+use Rattle.label.specs.Values.{count, valueAfter, value}
 use Rattle.label.specs.Segments.{Element, Segment, tagged}
-use Rattle.label.specs.Formats.{edition2005, Rule, ruleOf, asFields, asRest, asSegments, asElements, asText, asCounted}
+use Rattle.label.specs.Formats.{edition2005, Rule, ruleOf}
 use Rattle.label.specs.Layout.{Part, mark, bytesOf, rowsFrom, further, ended}
 use Rattle.label.specs.Written.{valueRow, pieceRow, tagRow, elementRow, subElementRow, bodyRow, rowed, rowedEach, twoDigits, indicator, elementParts, segmentParts}
 use Rattle.label.specs.Envelope.{plainElement}
-use Rattle.label.proofs.Tests.{both, and-both, free, free-of, not-true, plain-without, Implies, every-implies}
+use Rattle.label.proofs.Tests.{both, and-both, free, not-true, plain-without, Implies, every-implies}
 use Rattle.label.proofs.SegmentLaws.{tagged-some}
 use Rattle.leaves.specs.Seek.{seek}
 use Rattle.rows.specs.declared.Stage.{Stage}
-use Rattle.rows.specs.declared.Stage.the-variants.{Indicator, VersionValue, ReleaseValue, TypeValue, CompressionValue, CountValue, Piece, Tag, LaterElement, FurtherSubElement, Body}
+use Rattle.rows.specs.declared.Stage.the-variants.{Indicator, CountValue, Piece, Tag, LaterElement, FurtherSubElement, Body}
 use Rattle.rows.specs.declared.Cursor.{Cursor}
 use Rattle.rows.specs.Shapes.{shapeOf}
 use Rattle.rows.specs.Cursors.{ahead, countFrom, kindOf, standing, plainRow, indicatorAt, opening, afterPiece, afterSegment, afterSubElement, following}
 use Rattle.rows.proofs.Offsets.{digit-value}
-use Rattle.rows.proofs.Walks.{Yields, Leads, firstOf, first-further, behind-bytes, ahead-bytes, byte-there, mark-leads, choice-leads, row-yields, plain-leads}
+use Rattle.rows.proofs.Walks.{Yields, Leads, firstOf, first-further, behind-bytes, byte-there, mark-leads, choice-leads, row-yields, plain-leads}
 
 -- the first byte of plain bytes and others is no RS, if those others do not begin with one
 first-plain : (p rest : Bytes) → every plain p ≡ true → eqb (firstOf rest) RS ≡ false → eqb (firstOf (p ++ rest)) RS ≡ false

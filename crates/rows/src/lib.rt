@@ -4,10 +4,16 @@
 ghost use mathlib.Core.Path.{_≡_};
 ghost use Prim.Native.Nat.{_+_, _-_};
 ghost use lib.ListN.{length, drop, getD, take};
+ghost use mathlib.Core.List.{_++_};
+ghost use Rattle.label.specs.Limits.{rowWidth};
 ghost use Rattle.label.specs.Formats.{edition2005, ruleOf};
+ghost use Rattle.label.specs.Layout.{numbers, allNumbers};
+ghost use Rattle.label.specs.ReadMessage.{reading};
+ghost use Rattle.label.specs.Answer.{overlaid, rowsRead};
 ghost use Rattle.leaves.specs.Seek.{seek};
 ghost use Rattle.rows.specs.Shapes.{shapeOf};
-ghost use Rattle.rows.specs.Cursors.{ahead, plainRun, countFrom, kindOf, standing, plainRow, indicatorAt, opening, afterPiece, afterSegment, afterSubElement, firstCursor, nextCursor};
+ghost use Rattle.rows.specs.Cursors.{ahead, plainRun, countFrom, kindOf, standing, rowOf, plainRow, indicatorAt, opening, afterPiece, afterSegment, afterSubElement, firstCursor, nextCursor};
+ghost use Rattle.rows.specs.Tables.{Fits, Room};
 use leaves::Class;
 use leaves::GS;
 use leaves::RS;
@@ -295,5 +301,31 @@ pub fn next(m: &[u8], c: Cursor) -> Cursor
         Stage::LaterElement => after_sub_element(m, format, end),
         Stage::FurtherSubElement => after_sub_element(m, format, end),
         Stage::Body => indicator_at(m, behind),
+    }
+}
+
+// Puts a row's four numbers into a table, from an index on.
+fn put_row(t: &mut [u32], at: usize, c: Cursor)
+    requires { ⌜ Fits (now t) at c ⌝ }
+    ensures { λ r. ⌜ now (t .exit) ≡ take at (now (t .entry)) ++ (numbers (rowOf c) ++ drop (at + rowWidth) (now (t .entry))) ⌝ }
+{
+    let stage = c.stage;
+    t[at] = kind_of(stage);
+    t[at + 1] = c.format;
+    t[at + 2] = c.start as u32;
+    t[at + 3] = c.length as u32;
+}
+
+// Fills a table with the rows of a message, whose number is known; what lies behind them stays as it was.
+pub fn fill(m: &[u8], rows: usize, table: &mut [u32])
+    requires { ⌜ Room (now m) rows (now table) ⌝ }
+    ensures { λ r. ⌜ now (table .exit) ≡ overlaid (allNumbers (rowsRead (reading edition2005 (now (m .entry))))) (now (table .entry)) ⌝ }
+{
+    let mut c = first(m);
+    let mut i = 0;
+    while i < rows {
+        put_row(table, 4 * i, c);
+        c = next(m, c);
+        i += 1;
     }
 }

@@ -1,9 +1,9 @@
 -- `after_piece` goes by the byte that ends the piece.
 use mathlib.Core.Path.{sym, _∙_}
 use borrow.Author.Tests.{eq-eqb, ne-eqb}
+use borrow.Author.Needs.{needs}
 use Rattle.label.specs.Bytes.{GS}
 use Rattle.rows.specs.Cursors.{afterPiece}
-use borrow.Author.Needs.{needs}
 use Rattle.rows.proofs.after_piece.Statement.{statement}
 use Rattle.rows.proofs.after_piece.Tie as tie
 

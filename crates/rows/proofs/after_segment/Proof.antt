@@ -1,9 +1,9 @@
 -- `after_segment` goes by the byte behind the segment.
 use mathlib.Core.Path.{sym, _∙_}
 use borrow.Author.Tests.{eq-eqb, ne-eqb}
+use borrow.Author.Needs.{needs}
 use Rattle.label.specs.Bytes.{RS}
 use Rattle.rows.specs.Cursors.{afterSegment}
-use borrow.Author.Needs.{needs}
 use Rattle.rows.proofs.after_segment.Statement.{statement}
 use Rattle.rows.proofs.after_segment.Tie as tie
 

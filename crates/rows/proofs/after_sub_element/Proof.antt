@@ -1,9 +1,9 @@
 -- `after_sub_element` goes by the byte that ends the sub-element.
 use mathlib.Core.Path.{sym, _∙_}
 use borrow.Author.Tests.{eq-eqb, ne-eqb}
+use borrow.Author.Needs.{needs}
 use Rattle.label.specs.Bytes.{GS, US}
 use Rattle.rows.specs.Cursors.{afterSubElement}
-use borrow.Author.Needs.{needs}
 use Rattle.rows.proofs.after_sub_element.Statement.{statement}
 use Rattle.rows.proofs.after_sub_element.Tie as tie
 

@@ -1,5 +1,6 @@
-use Rattle.rows.proofs.Offsets.{ahead-past, ahead-inside, ahead-end}
+-- `ahead_of` is `ahead`: behind the end, inside, or up to the end.
 use borrow.Author.Needs.{needs}
+use Rattle.rows.proofs.Offsets.{ahead-past, ahead-inside, ahead-end}
 use Rattle.rows.proofs.ahead_of.Statement.{statement}
 use Rattle.rows.proofs.ahead_of.Tie as tie
 

@@ -1,6 +1,7 @@
+-- `byte_at` reads the byte, or 0 behind the end.
 use mathlib.Core.Path.{sym}
-use lib.ListN.{List·getD-eq-default}
 use borrow.Author.Needs.{needs}
+use lib.ListN.{List·getD-eq-default}
 use Rattle.rows.proofs.byte_at.Statement.{statement}
 use Rattle.rows.proofs.byte_at.Tie as tie
 

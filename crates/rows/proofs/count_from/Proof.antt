@@ -1,16 +1,15 @@
-use borrow.Author.Tests.{not-true, not-false}
-use Prim.Native.Nat.{_*_}
-use Rattle.rows.proofs.Offsets.{digit-value}
-use Prim.Native.Nat.{_+_, _-_, _<_}
+-- `count_from` counts. The loop's invariant: the number so far and the digits to come make the number that all digits make.
+use Prim.Native.Nat.{_*_, _+_, _-_, _<_}
 use mathlib.Core.Path.{_≡_, refl, sym, ap, _∙_}
 use mathlib.Core.Bool.{false}
 use mathlib.Core.Logic.{⊎-elim}
 use native.Mathlib.Omega.{arith}
+use borrow.Author.Tests.{not-true, not-false}
 use borrow.Author.Needs.{needs}
 use lib.ListN.{length, drop}
 use Rattle.leaves.proofs.Turns.{drop-past}
 use Rattle.rows.specs.Cursors.{countFrom}
-use Rattle.rows.proofs.Offsets.{count-by, count-grows, count-stays}
+use Rattle.rows.proofs.Offsets.{digit-value, count-by, count-grows, count-stays}
 use Rattle.rows.proofs.count_from.Statement.{statement}
 use Rattle.rows.proofs.count_from.Tie as tie
 

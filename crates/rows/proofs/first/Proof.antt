@@ -1,6 +1,6 @@
 -- `first` stands at the indicator behind the header.
-use Rattle.rows.specs.Cursors.{firstCursor}
 use borrow.Author.Needs.{needs}
+use Rattle.rows.specs.Cursors.{firstCursor}
 use Rattle.rows.proofs.first.Statement.{statement}
 use Rattle.rows.proofs.first.Tie as tie
 

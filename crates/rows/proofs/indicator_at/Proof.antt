@@ -1,9 +1,9 @@
+-- `indicator_at` is `indicatorAt`; behind the end both digits count 0.
 use Prim.Native.Nat.{_+_, _≤_}
 use native.Mathlib.Omega.{arith}
-use lib.ListN.{length}
-use lib.ListN.{List·getD-eq-default}
-use Rattle.rows.specs.Cursors.{indicatorAt}
 use borrow.Author.Needs.{needs}
+use lib.ListN.{length, List·getD-eq-default}
+use Rattle.rows.specs.Cursors.{indicatorAt}
 use Rattle.rows.proofs.indicator_at.Statement.{statement}
 use Rattle.rows.proofs.indicator_at.Tie as tie
 

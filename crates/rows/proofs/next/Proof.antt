@@ -1,6 +1,6 @@
 -- `next` goes by the stage.
-use Rattle.rows.specs.Cursors.{following, nextCursor}
 use borrow.Author.Needs.{needs}
+use Rattle.rows.specs.Cursors.{following, nextCursor}
 use Rattle.rows.proofs.next.Statement.{statement}
 use Rattle.rows.proofs.next.Tie as tie
 

@@ -1,7 +1,7 @@
 -- `opening_at` goes by the shape of the format.
 use mathlib.Core.Path.{sym, _∙_}
-use Rattle.rows.specs.Cursors.{opening}
 use borrow.Author.Needs.{needs}
+use Rattle.rows.specs.Cursors.{opening}
 use Rattle.rows.proofs.opening_at.Statement.{statement}
 use Rattle.rows.proofs.opening_at.Tie as tie
 

@@ -1,6 +1,6 @@
 -- `plain_row` is as long as the run of plain bytes.
-use Rattle.rows.specs.Cursors.{plainRow}
 use borrow.Author.Needs.{needs}
+use Rattle.rows.specs.Cursors.{plainRow}
 use Rattle.rows.proofs.plain_row.Statement.{statement}
 use Rattle.rows.proofs.plain_row.Tie as tie
 

@@ -1,3 +1,4 @@
+-- `plain_run` counts plain bytes. The loop's invariant: from where it stands the run ends where it ends from the start.
 use Prim.Native.Nat.{_+_, _-_, _≤_}
 use mathlib.Core.Path.{_≡_, refl, sym, ap, _∙_}
 use mathlib.Core.Bool.{true, false}

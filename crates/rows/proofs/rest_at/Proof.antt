@@ -1,9 +1,10 @@
-use Rattle.rows.specs.declared.Stage.the-variants.{Body}
-use Rattle.rows.specs.Cursors.{standing}
+-- `rest_at` is as long as what is left.
 use mathlib.Core.Path.{sym, ap, _∙_}
 use native.Mathlib.Omega.{arith}
-use lib.ListN.{length-drop}
 use borrow.Author.Needs.{needs}
+use lib.ListN.{length-drop}
+use Rattle.rows.specs.declared.Stage.the-variants.{Body}
+use Rattle.rows.specs.Cursors.{standing}
 use Rattle.rows.proofs.rest_at.Statement.{statement}
 use Rattle.rows.proofs.rest_at.Tie as tie
 

@@ -1,3 +1,4 @@
+-- `text_at` goes to the first RS.
 use native.Mathlib.Nat.{add-sub-cancel-left}
 use borrow.Author.Needs.{needs}
 use Rattle.rows.proofs.text_at.Statement.{statement}
