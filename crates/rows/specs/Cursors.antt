@@ -61,13 +61,20 @@ plainRow m stage f at = standing stage f at (plainRun (drop at m))
 unfoldable pub indicatorAt : Bytes → ℕ → Cursor
 indicatorAt m at = standing Indicator (10 * (getD m at 0 - 0x30) + (getD m (at + 1) 0 - 0x30)) at 2
 
+-- a body that ends before the next RS, and one that ends with the message
+abbrev pub textRow : Bytes → ℕ → ℕ → Cursor
+textRow m f at = standing Body f at (seek RS (drop at m))
+
+abbrev pub restRow : Bytes → ℕ → ℕ → Cursor
+restRow m f at = standing Body f at (length (drop at m))
+
 -- the first row behind an indicator that ends at an offset, by the format's shape
 unfoldable pub opening : Bytes → ℕ → ℕ → Shape → Cursor
 opening m f end Fields = standing VersionValue f (ahead m end 1) 2
-opening m f end Rest = standing Body f end (length (drop end m))
+opening m f end Rest = restRow m f end
 opening m f end Segments = standing ReleaseValue f end releaseLength
 opening m f end Elements = plainRow m Piece f (ahead m end 1)
-opening m f end Text = standing Body f end (seek RS (drop end m))
+opening m f end Text = textRow m f end
 opening m f end Counted = plainRow m TypeValue f (ahead m end 1)
 opening m f end Unknown = standing Body f end 0
 

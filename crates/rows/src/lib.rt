@@ -1,18 +1,17 @@
 // The one walk over the rows of a good message. A cursor by value stands at a row: it holds the row's format, start and
-// length, and its stage, which tells the kind and how the walk goes on. Nothing is tested again: `first` and `next` take
-// every input, and on a good message they go from each row to the next one (proofs/Promises).
-ghost use mathlib.Core.Path.{_≡_};
+// length, and its stage, which tells the row's kind and where the next row is. Nothing is tested again: `first` and `next`
+// take every input, and on a message that is read they go over exactly its rows (`walked` of proofs/Promises).
 ghost use Prim.Native.Nat.{_+_, _-_};
-ghost use lib.ListN.{length, drop, getD, take};
+ghost use mathlib.Core.Path.{_≡_};
 ghost use mathlib.Core.List.{_++_};
+ghost use lib.ListN.{drop, getD, take};
 ghost use Rattle.label.specs.Limits.{rowWidth};
 ghost use Rattle.label.specs.Formats.{edition2005, ruleOf};
 ghost use Rattle.label.specs.Layout.{numbers, allNumbers};
 ghost use Rattle.label.specs.ReadMessage.{reading};
 ghost use Rattle.label.specs.Answer.{overlaid, rowsRead};
-ghost use Rattle.leaves.specs.Seek.{seek};
 ghost use Rattle.rows.specs.Shapes.{shapeOf};
-ghost use Rattle.rows.specs.Cursors.{ahead, plainRun, countFrom, kindOf, standing, rowOf, plainRow, indicatorAt, opening, afterPiece, afterSegment, afterSubElement, firstCursor, nextCursor};
+ghost use Rattle.rows.specs.Cursors.{ahead, plainRun, countFrom, kindOf, standing, rowOf, plainRow, indicatorAt, textRow, restRow, opening, afterPiece, afterSegment, afterSubElement, firstCursor, nextCursor};
 ghost use Rattle.rows.specs.Tables.{Fits, Room};
 use leaves::Class;
 use leaves::GS;
@@ -30,7 +29,9 @@ pub enum Shape {
     Unknown,
 }
 
-// What a row is: `kindOf` of specs/Cursors has each one's kind.
+// What a row is: the indicator; a header value (the version of 01, the six bytes of 03 and 04, type, compression and count
+// of 09); a field or an element of 01, 05 or 06; a tag, the first sub-element of a later element, or a further one; a body.
+// `kindOf` of specs/Cursors has each one's kind.
 pub enum Stage {
     Indicator,
     VersionValue,
@@ -45,7 +46,7 @@ pub enum Stage {
     Body,
 }
 
-// A row: where it starts, how long it is, in which format, and what it is.
+// Where the walk stands: at a row, with all that is to be told of it.
 pub struct Cursor {
     pub stage: Stage,
     pub format: u32,
@@ -120,7 +121,7 @@ fn plain_run(m: &[u8], at: usize) -> usize
     i - at
 }
 
-// The number that the digits from an offset on make, as long as it is below 10,000.
+// The number that the digits from an offset on make; at 10,000 or more, longer than any message, it grows no further.
 fn count_from(m: &[u8], at: usize) -> usize
     ensures { λ r. ⌜ r ≡ countFrom 0 (drop at (now (m .entry))) ⌝ }
 {
@@ -139,6 +140,7 @@ fn count_from(m: &[u8], at: usize) -> usize
     n
 }
 
+// A byte as a number to count with.
 fn wide(x: u8) -> usize
     ensures { λ r. ⌜ r ≡ x ⌝ }
 {
@@ -202,7 +204,7 @@ fn standing_at(stage: Stage, format: u32, at: usize, n: usize) -> Cursor
 
 // The body of format 07, from an offset to the next RS.
 fn text_at(m: &[u8], format: u32, at: usize) -> Cursor
-    ensures { λ r. ⌜ r ≡ standing Stage.Body format at (seek 0x1E (drop at (now (m .entry)))) ⌝ }
+    ensures { λ r. ⌜ r ≡ textRow (now (m .entry)) format at ⌝ }
 {
     let end = leaves::find(m, at, RS);
     standing_at(Stage::Body, format, at, end - at)
@@ -210,7 +212,7 @@ fn text_at(m: &[u8], format: u32, at: usize) -> Cursor
 
 // The body of format 02, from an offset to the message's end.
 fn rest_at(m: &[u8], format: u32, at: usize) -> Cursor
-    ensures { λ r. ⌜ r ≡ standing Stage.Body format at (length (drop at (now (m .entry)))) ⌝ }
+    ensures { λ r. ⌜ r ≡ restRow (now (m .entry)) format at ⌝ }
 {
     if m.len() <= at {
         return standing_at(Stage::Body, format, at, 0);
@@ -272,7 +274,7 @@ fn after_sub_element(m: &[u8], format: u32, end: usize) -> Cursor
     after_segment(m, format, behind)
 }
 
-// The first row of a message: the indicator behind its header.
+// The first row of a message: the indicator behind its header. It takes every message.
 pub fn first(m: &[u8]) -> Cursor
     ensures { λ r. ⌜ r ≡ firstCursor (now (m .entry)) ⌝ }
 {
@@ -304,7 +306,7 @@ pub fn next(m: &[u8], c: Cursor) -> Cursor
     }
 }
 
-// Puts a row's four numbers into a table, from an index on.
+// Puts a row's four numbers into a table, from an index on; all other numbers stay as they were.
 fn put_row(t: &mut [u32], at: usize, c: Cursor)
     requires { ⌜ Fits (now t) at c ⌝ }
     ensures { λ r. ⌜ now (t .exit) ≡ take at (now (t .entry)) ++ (numbers (rowOf c) ++ drop (at + rowWidth) (now (t .entry))) ⌝ }
