@@ -96,7 +96,7 @@ sound-in n (f ∷ fs) hs = by (eqb n (f .number)) (sound-in n fs (hs .1))
     by true later = hs .0
     by false later = later
 
-text-without : (edition : Edition) (f : ℕ) (permitted : ℕ → Bool) → ruleOf edition f ≡ asText permitted → Without RS permitted
+pub text-without : (edition : Edition) (f : ℕ) (permitted : ℕ → Bool) → ruleOf edition f ≡ asText permitted → Without RS permitted
 unfolding ruleOf
 text-without edition f permitted known = subst Sound known (sound-in f (formats edition) (rules-sound edition))
 

@@ -135,7 +135,7 @@ some-map : {A B : Type 0} (f : A → B) (xs : List A) → isEmpty xs ≡ false �
 some-map f [] h = h
 some-map f (x ∷ xs) h = refl
 
-tagged-some : (isTag : Bytes → Bool) (s : Segment) → tagged isTag s ≡ true → isEmpty s ≡ false
+pub tagged-some : (isTag : Bytes → Bool) (s : Segment) → tagged isTag s ≡ true → isEmpty s ≡ false
 unfolding tagged
 tagged-some isTag [] h = absurd (false≢true h)
 tagged-some isTag (e ∷ es) h = refl

@@ -1,0 +1,3 @@
+pub mod Shapes
+pub mod Cursors
+pub mod Tables
