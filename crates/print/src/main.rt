@@ -1,0 +1,11 @@
+// Prints the reading of the message on standard input, as document 01 has it under 'Cartons to try'. One byte more than a message
+// may have is enough to see that it is too long.
+use libc::STDIN_FILENO;
+
+fn main() {
+    let mut message = [0u8; 4097];
+    let length = io::read_full(STDIN_FILENO, &mut message);
+    let mut table = [0u32; 4096];
+    let reading = reader::read(&message[..length], &mut table);
+    report::print_reading(reading, &table);
+}
