@@ -1,0 +1,2 @@
+-- A law that the function proofs cite.
+pub mod Bound
