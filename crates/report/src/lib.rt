@@ -57,7 +57,7 @@ pub fn print_answer(reading: Reading) {
 }
 
 // Prints the table's first rows, a line each.
-pub fn print_rows(table: &[u32], rows: usize) {
+fn print_rows(table: &[u32], rows: usize) {
     let mut i = 0;
     while i < rows {
         print_row(table, i);
