@@ -67,7 +67,7 @@ fn judge_format(m: &[u8], at: usize, f: usize, first: bool) -> Found
 }
 
 // What is found where an envelope is due: 3, then its format.
-pub fn judge_envelope(m: &[u8], at: usize, first: bool) -> Found
+fn judge_envelope(m: &[u8], at: usize, first: bool) -> Found
     requires { ⌜ at ≤ length (now m) ⌝ }
     ensures { λ r. ⌜ r ≡ shown (now (m .entry)) (readEnvelope edition2005 first (drop at (now (m .entry)))) ⌝ }
 {

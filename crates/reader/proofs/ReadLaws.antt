@@ -17,7 +17,7 @@ use Rattle.label.specs.ReadMessage.{Outcome, read, refused, reading}
 use Rattle.label.specs.Answer.{accepted, refusal, roomOf, answered, readAnswer, overlaid, filled, tableAfter, rowsRead}
 use Rattle.judge.specs.Shown.{judgedAs}
 use Rattle.judge.proofs.BodyLaws.{cond-yes, cond-no}
-use Rattle.rows.specs.Tables.{Room}
+use Rattle.reader.specs.Tables.{Room}
 
 -- what a caller has: an answer, and a table
 pub record Told (m : Bytes) (table after answer : List ℕ) : Type 0 where
