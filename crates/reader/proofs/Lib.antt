@@ -5,3 +5,4 @@ pub mod Enveloped
 pub mod Promises
 pub mod Filling
 pub mod ReadLaws
+pub mod Standing

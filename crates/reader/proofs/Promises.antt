@@ -48,10 +48,12 @@ rows-inside limit at (item i ∷ ps) fits =
     let whole = length-append (i .content) (bytesOf ps) in
     (omega arith, rows-inside limit (at + length (i .content)) ps (omega arith))
 
--- from the first row of any message the walk goes over the rows that are read, of a refused message none; and each lies in the first `longest` bytes
+-- from the first row of any message the walk goes over the rows that are read, of a refused message none; and each lies in the message, in the first
+-- `longest` bytes
 pub record Walked (m : Bytes) (rows : List Row) : Type 0 where
   pub yields : Yields m (firstCursor m) rows
   pub inside : Each (λ (r : Row). r .start + r .length ≤ longest) rows
+  pub held : Each (λ (r : Row). r .start + r .length ≤ length m) rows
 
 pub walked : (m : Bytes) → Walked m (rowsRead (reading edition2005 m))
 unfolding rowsOf message
@@ -60,5 +62,6 @@ walked m = by (reading edition2005 m) refl
     by : (o : Outcome) → reading edition2005 m ≡ o → Walked m (rowsRead o)
     by (read es) says =
         let good = accepted-is-good edition2005 m es says in
-        record { yields = good-walk m es good; inside = rows-inside longest 0 (messageParts es) (omega (arith, ap length (good .writesOut), good .notTooLong)) }
-    by (refused reason place) says = record { yields = tt; inside = tt }
+        let long = ap length (good .writesOut) in
+        record { yields = good-walk m es good; inside = rows-inside longest 0 (messageParts es) (omega (arith, long, good .notTooLong)); held = rows-inside (length m) 0 (messageParts es) (omega (arith, long)) }
+    by (refused reason place) says = record { yields = tt; inside = tt; held = tt }

@@ -60,9 +60,19 @@ refused-by (refused reason place) r table says =
     let is : record { reason = reason; place = place } ≡ r = cc in
     record { answered-so = sym (ap (λ (f : Refusal). refusal (f .reason) (f .place)) is); filled-so = refl }
 
+none-by : (o : Outcome) (r : Refusal) → judgedAs o ≡ Refused r → 0 ≡ length (rowsRead o)
+none-by (read es) r says = let z : _≡_ {A = ℕ} 0 1 = cc in absurd (omega arith)
+none-by (refused reason place) r says = refl
+
+pub rows-judged : (m : Bytes) (counts : Counts) → judgedAs (reading edition2005 m) ≡ Accepted counts → counts .rows ≡ length (rowsRead (reading edition2005 m))
+rows-judged m counts says = rows-by (reading edition2005 m) counts says
+
+pub none-judged : (m : Bytes) (r : Refusal) → judgedAs (reading edition2005 m) ≡ Refused r → 0 ≡ length (rowsRead (reading edition2005 m))
+none-judged m r says = none-by (reading edition2005 m) r says
+
 module _ (m : Bytes) (table : List ℕ) where
   pub room-for : (counts : Counts) → judgedAs (reading edition2005 m) ≡ Accepted counts → counts .rows ≤ roomOf table → Room m (counts .rows) table
-  room-for counts says enough = record { counted = rows-by (reading edition2005 m) counts says; roomy = omega arith }
+  room-for counts says enough = record { counted = rows-judged m counts says; roomy = omega arith }
 
   pub lacks-room : (counts : Counts) → judgedAs (reading edition2005 m) ≡ Accepted counts → roomOf table < counts .rows → Told m table table (refusal NoRoom 0)
   lacks-room counts says short = told m table table (refusal NoRoom 0) (no-room-by (reading edition2005 m) counts table says short)

@@ -1,3 +1,4 @@
 pub mod Shapes
 pub mod Cursors
 pub mod Tables
+pub mod Stretches

@@ -1,8 +1,10 @@
 // The one walk over the rows of a good message. A cursor by value stands at a row: it holds the row's format, start and
 // length, and its stage, which tells the row's kind and where the next row is. Nothing is tested again: `first` and `next`
 // take every input, and on a message that is read they go over exactly its rows (`walked` of proofs/Promises).
+mod named;
 mod table;
 
+pub use named::part;
 pub use table::read;
 ghost use Prim.Native.Nat.{_+_, _-_};
 ghost use mathlib.Core.Path.{_≡_};
