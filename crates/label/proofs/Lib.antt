@@ -18,6 +18,7 @@ pub mod WalkComplete
 pub mod ReadingSound
 pub mod ReadingComplete
 pub mod Places
+pub mod Rendering
 pub mod PayloadFree
 pub mod Answers
 pub mod Promises
