@@ -2,7 +2,7 @@
 -- reading: each test that was passed is a fact about the bytes, and at the end the facts are the envelope's rules.
 use Prim.Native.Nat.{ℕ, _+_, _<_}
 use mathlib.Core.Path.{_≡_, refl, sym, ap, _∙_, subst}
-use mathlib.Core.Bool.{Bool, true, false, not, _&&_, _||_, cond, false≢true}
+use mathlib.Core.Bool.{Bool, true, false, not, _&&_, _||_, cond}
 use mathlib.Core.Option.{Option, none, some}
 use mathlib.Core.List.{[], _∷_, _++_, map, append-assoc}
 use native.Mathlib.Omega.{arith}
@@ -24,7 +24,7 @@ use Rattle.label.specs.Envelope.{Envelope, fields, wholeRest, segments, 
 use Rattle.label.specs.Written.{twoDigits, parts}
 use Rattle.label.specs.Message.{isTransport, isRest}
 use Rattle.label.specs.ReadEnvelope.{Step, closed, whole, refuse, must, opened, valuedAt, valued, bodyAt, bodied, plainOrGS, versionOf, readFields, readTransport, readRest, segmentByte, segmentsIn, areSegments, readSegments, readElements, readText, readPayload, readCounted, readBy, readEnvelope}
-use Rattle.label.proofs.Tests.{both, or-left, or-not, not-true}
+use Rattle.label.proofs.Tests.{both, or-left, or-not, same-bytes, not-true}
 use Rattle.label.proofs.Splitting.{joined, terminated, joined-pieces, pieces-some, CutSo, cut-so, every-pieces}
 use Rattle.label.proofs.Laid.{segmentBytes, contentBytes, formatOf, bytes-envelope}
 use Rattle.label.proofs.SegmentLaws.{segments-back, plain-segments}
@@ -104,14 +104,6 @@ bytes-closed e bs left h = ap (λ r. twoDigits (formatOf e) ++ r) h ∙ sym (ap 
 or-true : (a : Bool) → (a || true) ≡ true
 or-true true = refl
 or-true false = refl
-
-same-bytes : (xs ys : Bytes) → sameBytes xs ys ≡ true → xs ≡ ys
-same-bytes [] [] h = refl
-same-bytes [] (y ∷ ys) h = absurd (false≢true h)
-same-bytes (x ∷ xs) [] h = absurd (false≢true h)
-same-bytes (x ∷ xs) (y ∷ ys) h =
-    let k = both (eqb x y) (sameBytes xs ys) h in
-    λ i. eqb-true x y (k .left) i ∷ same-bytes xs ys (k .right) i
 
 pub version-so : (bs : Bytes) (v : Version) → versionOf bs ≡ some v → bs ≡ versionDigits v
 unfolding versionOf

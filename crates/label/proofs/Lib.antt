@@ -18,7 +18,8 @@ pub mod WalkComplete
 pub mod ReadingSound
 pub mod ReadingComplete
 pub mod Places
-pub mod Rendering
 pub mod PayloadFree
 pub mod Answers
+pub mod Rendering
+pub mod RowItems
 pub mod Promises

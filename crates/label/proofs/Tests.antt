@@ -1,12 +1,12 @@
--- Laws of tests: a conjunction taken apart and put together, a test over a list, over lists behind one another, and of classes of bytes.
+-- Laws of tests: a conjunction taken apart and put together, a test over a list, over lists behind one another, of the same bytes, and of classes of bytes.
 use Prim.Native.Nat.{ℕ, _≤_, _<_}
 use mathlib.Core.Path.{_≡_, refl, sym, ap, _∙_}
 use mathlib.Core.Bool.{Bool, true, false, not, _&&_, _||_, false≢true, true≢false}
 use mathlib.Core.List.{List, [], _∷_, _++_}
 use native.Mathlib.Omega.{arith}
-use borrow.Author.Tests.{leb-true, eqb-true, ne-eqb}
+use borrow.Author.Tests.{leb-true, eqb-true, eq-eqb, ne-eqb}
 use lib.Dec.{eqb}
-use Rattle.label.specs.Bytes.{Bytes, between, plain, digit, every}
+use Rattle.label.specs.Bytes.{Bytes, between, plain, digit, every, sameBytes}
 
 pub record Both (a b : Bool) : Type 0 where
   pub left : a ≡ true
@@ -46,6 +46,19 @@ every-append p [] ys e h = h
 every-append p (x ∷ xs) ys e h =
     let b = both (p x) (every p xs) e in
     and-both (b .left) (every-append p xs ys (b .right) h)
+
+-- bytes that pass for the same are the same, and the other way round
+pub same-bytes : (xs ys : Bytes) → sameBytes xs ys ≡ true → xs ≡ ys
+same-bytes [] [] h = refl
+same-bytes [] (y ∷ ys) h = absurd (false≢true h)
+same-bytes (x ∷ xs) [] h = absurd (false≢true h)
+same-bytes (x ∷ xs) (y ∷ ys) h =
+    let k = both (eqb x y) (sameBytes xs ys) h in
+    λ i. eqb-true x y (k .left) i ∷ same-bytes xs ys (k .right) i
+
+pub bytes-same : (bs : Bytes) → sameBytes bs bs ≡ true
+bytes-same [] = refl
+bytes-same (b ∷ bs) = and-both (eq-eqb b b refl) (bytes-same bs)
 
 -- no byte of bs is c
 abbrev pub free : ℕ → Bytes → Bool
