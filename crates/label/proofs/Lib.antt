@@ -22,4 +22,6 @@ pub mod PayloadFree
 pub mod Answers
 pub mod Rendering
 pub mod RowItems
+pub mod Composing
 pub mod Promises
+pub mod WriterPromises

@@ -58,7 +58,8 @@ module _ (edition : Edition) where
 
   module _ (f : ℕ) where
     -- rows of one kind, each behind a separator: the first behind a row of kind p, the others behind one another
-    rows-behind : (p k separator : ℕ) (tail : List Part) (pieces : List Bytes) → marksBetween (ruleOf edition f) p k ≡ separator ∷ [] → marksBetween (ruleOf edition f) k k ≡ separator ∷ []
+    rows-behind : (p k separator : ℕ) (tail : List Part) (pieces : List Bytes) → marksBetween (ruleOf edition f) p k ≡ separator ∷ []
+        → marksBetween (ruleOf edition f) k k ≡ separator ∷ []
         → Behind p f tail → Behind k f tail → Behind p f (further separator (rowedEach k f pieces) ++ tail)
     rows-behind p k separator tail [] first later none some = none
     rows-behind p k separator tail (bs ∷ pieces) first later none some =
@@ -77,7 +78,8 @@ module _ (edition : Edition) where
     abbrev BehindSegment : List Part → Type 0
     BehindSegment ps = (p : ℕ) → tagRow ≤ p → p ≤ subElementRow → Behind p f ps
 
-    elements-behind : (es : List Element) (tail : List Part) → every plainElement es ≡ true → BehindSegment tail → BehindSegment (further GS (map (elementParts elementRow f) es) ++ tail)
+    elements-behind : (es : List Element) (tail : List Part) → every plainElement es ≡ true → BehindSegment tail
+        → BehindSegment (further GS (map (elementParts elementRow f) es) ++ tail)
     unfolding marksBetween
     elements-behind [] tail plains behind p least most = behind p least most
     elements-behind ([] ∷ es) tail plains behind p least most = absurd (false≢true plains)
@@ -123,9 +125,11 @@ module _ (edition : Edition) where
       subst (λ (t : Bool). Behind p f (marks (cond t (FS ∷ RS ∷ []) (RS ∷ [])) ++ rest)) (and-both (le-leb tagRow p least) (le-leb p subElementRow most)) (behind p)
 
   -- header and body of an envelope stand as they are rendered behind its indicator
-  envelope-behind : (e : Envelope) (rest : List Part) → Within edition e → isRest e ≡ false → BehindEnvelope (formatOf e) rest → Behind indicatorRow (formatOf e) (inner e ++ (mark RS ∷ rest))
+  envelope-behind : (e : Envelope) (rest : List Part) → Within edition e → isRest e ≡ false → BehindEnvelope (formatOf e) rest
+      → Behind indicatorRow (formatOf e) (inner e ++ (mark RS ∷ rest))
   unfolding parts marksBetween
-  envelope-behind (fields f v []) rest w closed behind = row-behind indicatorRow f valueRow f (GS ∷ []) (versionDigits v) (mark RS ∷ rest) (ap beforeValue (w .known)) (behind valueRow)
+  envelope-behind (fields f v []) rest w closed behind =
+      row-behind indicatorRow f valueRow f (GS ∷ []) (versionDigits v) (mark RS ∷ rest) (ap beforeValue (w .known)) (behind valueRow)
   envelope-behind (fields f v (p ∷ ps)) rest w closed behind =
       row-behind indicatorRow f valueRow f (GS ∷ []) (versionDigits v) (separated GS (rowedEach pieceRow f (p ∷ ps)) ++ (mark RS ∷ rest)) (ap beforeValue (w .known))
       (pieces-behind f valueRow [] p ps (mark RS ∷ rest) refl (behind pieceRow))
@@ -181,7 +185,8 @@ module _ (edition : Edition) where
   closed-rendered e es within closed =
       let c = both (not (isRest e)) (every (λ e. not (isRest e)) es) closed in
       subst⁻¹ (λ (ps : List Part). rendered edition (itemsOf (marks header ++ ps)) ≡ bytesOf (marks header ++ ps)) (to-end-cons e es)
-      (ap (λ r. header ++ (twoDigits (formatOf e) ++ r)) (sym (envelope-behind e (toEnd es) (within .0) (not-true (isRest e) (c .left)) (envelopes-behind e es within closed) (twoDigits (formatOf e)))))
+      (ap (λ r. header ++ (twoDigits (formatOf e) ++ r))
+      (sym (envelope-behind e (toEnd es) (within .0) (not-true (isRest e) (c .left)) (envelopes-behind e es within closed) (twoDigits (formatOf e)))))
 
   alone-rendered : (e : Envelope) → Within edition e → isRest e ≡ true → rendered edition (itemsOf (marks header ++ (parts e ++ []))) ≡ bytesOf (marks header ++ (parts e ++ []))
   unfolding rendered renderedAfter marksBetween parts
@@ -197,7 +202,8 @@ module _ (edition : Edition) where
   unfolding message messageParts
   by-place [] t is some within or = absurd (true≢false some)
   by-place (e ∷ []) true is some within or =
-      subst⁻¹ (λ (b : Bool). rendered edition (itemsOf (marks header ++ cond b (parts e ++ []) (toEnd (e ∷ [])))) ≡ bytesOf (marks header ++ cond b (parts e ++ []) (toEnd (e ∷ [])))) is
+      subst⁻¹ (λ (b : Bool). rendered edition (itemsOf (marks header ++ cond b (parts e ++ []) (toEnd (e ∷ []))))
+      ≡ bytesOf (marks header ++ cond b (parts e ++ []) (toEnd (e ∷ [])))) is
       (alone-rendered e (within .0) is)
   by-place (e ∷ (e′ ∷ es)) true is some within or = absurd (false≢true is)
   by-place (e ∷ es) false is some within or =

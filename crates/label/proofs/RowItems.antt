@@ -104,16 +104,20 @@ module _ (edition : Edition) (m : Bytes) (es : List Envelope) (good : Good editi
       let ns = allNumbers (rowsOf es) in
       let wide = numbers-wide (rowsOf es) in
       let few = good .notTooMany in
-      and-both (and-both (eq-eqb (length ns % rowWidth) 0 (omega arith)) (le-leb (length ns / rowWidth) mostRows (omega arith))) (ap (every (inside m)) (rows-in-numbers (rowsOf es)) ∙ all-inside)
+      and-both (and-both (eq-eqb (length ns % rowWidth) 0 (omega arith)) (le-leb (length ns / rowWidth) mostRows (omega arith)))
+      (ap (every (inside m)) (rows-in-numbers (rowsOf es)) ∙ all-inside)
 
   -- they name the message's items
   pub numbers-items : itemsIn m (allNumbers (rowsOf es)) ≡ itemsOf (messageParts es)
   unfolding rowsOf message
   numbers-items = ap (map (itemIn m)) (rows-in-numbers (rowsOf es)) ∙ ap (λ held. map (itemIn held) (rowsOf es)) (sym (good .writesOut)) ∙ items-there (messageParts es)
 
-  -- and so do the first numbers of a table that it was read into
-  pub table-items : (table : List ℕ) → length (rowsOf es) ≤ roomOf table → itemsIn m (take (rowWidth * length (rowsOf es)) (tableAfter edition m table)) ≡ itemsOf (messageParts es)
-  table-items table enough =
-      ap (λ ns. itemsIn m (take (rowWidth * length (rowsOf es)) ns)) (filled-with-room edition m es table (reading-pass edition m es good) enough)
-      ∙ ap (itemsIn m) (take-at (allNumbers (rowsOf es)) _ (rowWidth * length (rowsOf es)) (numbers-wide (rowsOf es)))
-      ∙ numbers-items
+  -- a table that it was read into begins with their numbers, which name those items too
+  pub table-numbers : (table : List ℕ) → length (rowsOf es) ≤ roomOf table → take (rowWidth * length (rowsOf es)) (tableAfter edition m table) ≡ allNumbers (rowsOf es)
+  table-numbers table enough =
+      ap (take (rowWidth * length (rowsOf es))) (filled-with-room edition m es table (reading-pass edition m es good) enough)
+      ∙ take-at (allNumbers (rowsOf es)) _ (rowWidth * length (rowsOf es)) (numbers-wide (rowsOf es))
+
+  pub table-items : (table : List ℕ) → length (rowsOf es) ≤ roomOf table
+      → itemsIn m (take (rowWidth * length (rowsOf es)) (tableAfter edition m table)) ≡ itemsOf (messageParts es)
+  table-items table enough = ap (itemsIn m) (table-numbers table enough) ∙ numbers-items
