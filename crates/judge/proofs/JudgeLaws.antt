@@ -12,21 +12,16 @@ use Rattle.label.specs.declared.Reason.the-variants.{TooLong, NoMessageHeader, 
 use Rattle.label.specs.Bytes.{Bytes, RS}
 use Rattle.label.specs.Limits.{longest, mostRows}
 use Rattle.label.specs.Formats.{edition2005}
-use Rattle.label.specs.Layout.{Part, mark, item, marks, itemsOf, rowsFrom, separated, ended}
+use Rattle.label.specs.Layout.{Part, mark, marks, itemsOf, separated, ended}
 use Rattle.label.specs.Envelope.{Envelope}
 use Rattle.label.specs.Written.{parts}
 use Rattle.label.specs.Message.{header, isRestAlone, messageParts, rowsOf}
 use Rattle.label.specs.ReadMessage.{Outcome, read, refused, walk, enough, agreement, withinRows, reading}
 use Rattle.label.proofs.Walk.{walked, bound-is-enough}
+use Rattle.label.proofs.RowItems.{rows-items}
 use Rattle.judge.specs.Shown.{judgedAs, totalRows, tallied, limited}
 use Rattle.judge.proofs.BodyLaws.{cond-yes, cond-no}
 use Rattle.judge.proofs.RowCounts.{items-append}
-
--- a row for each item
-rows-items : (at : ℕ) (ps : List Part) → length (rowsFrom at ps) ≡ length (itemsOf ps)
-rows-items at [] = refl
-rows-items at (mark b ∷ ps) = rows-items (at + 1) ps
-rows-items at (item i ∷ ps) = ap suc (rows-items (at + length (i .content)) ps)
 
 items-ended : (es : List Envelope) (ps : List Part) → length (itemsOf (ended RS (map parts es) ++ ps)) ≡ totalRows es + length (itemsOf ps)
 items-ended [] ps = omega arith

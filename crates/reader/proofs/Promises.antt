@@ -1,19 +1,20 @@
 -- What the walk promises: from the first row of a message that is read it goes over exactly the rows of the reading, and each lies in the message.
-use Prim.Native.Nat.{ℕ, _+_, _≤_}
+use Prim.Native.Nat.{_+_, _≤_}
 use mathlib.Core.Path.{_≡_, refl, sym, ap, subst}
 use mathlib.Core.Bool.{Bool, true, false, not, _||_, cond, false≢true}
 use mathlib.Core.List.{List, [], _∷_, _++_, map, append-nil}
 use native.Mathlib.Omega.{arith}
-use lib.ListN.{length, drop, length-append}
+use lib.ListN.{length, drop}
 use Rattle.label.specs.Bytes.{Bytes, EOT, RS, every}
 use Rattle.label.specs.Limits.{longest}
 use Rattle.label.specs.Formats.{edition2005}
-use Rattle.label.specs.Layout.{Part, mark, item, Row, bytesOf, rowsFrom, separated, ended}
+use Rattle.label.specs.Layout.{Part, mark, Row, separated, ended}
 use Rattle.label.specs.Envelope.{Envelope, Within}
 use Rattle.label.specs.Written.{parts}
 use Rattle.label.specs.Message.{header, isRest, isRestAlone, messageParts, message, rowsOf, Each, Good}
 use Rattle.label.specs.ReadMessage.{Outcome, read, refused, reading}
 use Rattle.label.specs.Answer.{rowsRead}
+use Rattle.label.proofs.RowItems.{rows-inside}
 use Rattle.label.proofs.Promises.{accepted-is-good}
 use Rattle.reader.specs.Cursors.{indicatorAt, firstCursor}
 use Rattle.reader.proofs.Walks.{Yields, Leads}
@@ -39,14 +40,6 @@ module _ (m : Bytes) (es : List Envelope) (good : Good edition2005 m es) where
   pub good-walk : Yields m (firstCursor m) (rowsOf es)
   unfolding firstCursor rowsOf message messageParts
   good-walk = all-lead (isRestAlone es) refl (length header) (ap (drop (length header)) (sym (good .writesOut)))
-
--- rows of parts lie where the parts lie
-rows-inside : (limit at : ℕ) (ps : List Part) → at + length (bytesOf ps) ≤ limit → Each (λ (r : Row). r .start + r .length ≤ limit) (rowsFrom at ps)
-rows-inside limit at [] fits = tt
-rows-inside limit at (mark b ∷ ps) fits = rows-inside limit (at + 1) ps (omega arith)
-rows-inside limit at (item i ∷ ps) fits =
-    let whole = length-append (i .content) (bytesOf ps) in
-    (omega arith, rows-inside limit (at + length (i .content)) ps (omega arith))
 
 -- from the first row of any message the walk goes over the rows that are read, of a refused message none; and each lies in the message, in the first
 -- `longest` bytes
