@@ -56,7 +56,7 @@ module _ (edition : Edition) where
       ∙ ap (λ t. cond t (some m) none) (ap (λ js. sameItems js is) (with .items) ∙ items-same is)
 
   -- what is composed is a good message with these items
-  composed-good : (is : List Item) (w : Bytes) → composed edition is ≡ some w → MessageWith is w
+  pub composed-good : (is : List Item) (w : Bytes) → composed edition is ≡ some w → MessageWith is w
   unfolding composed
   composed-good is w says = by (reading edition (rendered edition is)) (reading-so edition (rendered edition is)) says
     where
@@ -77,7 +77,7 @@ module _ (edition : Edition) where
     unfolding writing
     bad-rows room stand = ap (λ t. cond t (fitting room (composed edition (itemsIn held ns))) (declined BadRows)) stand
 
-    rows-fit : (room : ℕ) (c : Option Bytes) → rowsStand held ns ≡ true → composed edition (itemsIn held ns) ≡ c → writing edition held ns room ≡ fitting room c
+    pub rows-fit : (room : ℕ) (c : Option Bytes) → rowsStand held ns ≡ true → composed edition (itemsIn held ns) ≡ c → writing edition held ns room ≡ fitting room c
     unfolding writing
     rows-fit room c stand is = ap (λ t. cond t (fitting room (composed edition (itemsIn held ns))) (declined BadRows)) stand ∙ ap (fitting room) is
 

@@ -5,6 +5,7 @@ mod named;
 mod table;
 
 pub use named::part;
+pub use named::rows_of;
 pub use table::read;
 ghost use Prim.Native.Nat.{_+_, _-_};
 ghost use mathlib.Core.Path.{_≡_};
@@ -60,7 +61,7 @@ pub struct Cursor {
 }
 
 // The kind of a row.
-fn kind_of(stage: Stage) -> u32
+pub fn kind_of(stage: Stage) -> u32
     ensures { λ r. ⌜ r ≡ kindOf stage ⌝ }
 {
     match stage {
@@ -79,7 +80,7 @@ fn kind_of(stage: Stage) -> u32
 }
 
 // The shape of a format's body.
-fn shape_of(format: u32) -> Shape
+pub fn shape_of(format: u32) -> Shape
     ensures { λ r. ⌜ r ≡ shapeOf (ruleOf edition2005 format) ⌝ }
 {
     match format {
@@ -280,14 +281,14 @@ fn after_sub_element(m: &[u8], format: u32, end: usize) -> Cursor
 }
 
 // The first row of a message: the indicator behind its header. It takes every message.
-fn first(m: &[u8]) -> Cursor
+pub fn first(m: &[u8]) -> Cursor
     ensures { λ r. ⌜ r ≡ firstCursor (now (m .entry)) ⌝ }
 {
     indicator_at(m, 4)
 }
 
 // The row behind a row, on a good message. It takes every message and every cursor.
-fn next(m: &[u8], c: Cursor) -> Cursor
+pub fn next(m: &[u8], c: Cursor) -> Cursor
     ensures { λ r. ⌜ r ≡ nextCursor (now (m .entry)) c ⌝ }
 {
     let stage = c.stage;

@@ -19,7 +19,7 @@ pub struct Span {
 }
 
 // How many rows are read in a message, in a refused one none.
-fn rows_of(m: &[u8]) -> usize
+pub fn rows_of(m: &[u8]) -> usize
     ensures { λ r. ⌜ r ≡ length (rowsRead (reading edition2005 (now (m .entry)))) ⌝ }
 {
     let judged = judge::judge(m);

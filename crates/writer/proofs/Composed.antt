@@ -1,0 +1,161 @@
+-- From what is laid out and compared to what is composed, and from that to the answer and the output.
+use Prim.Native.Nat.{ℕ, _/_, _≤_, _<_}
+use mathlib.Core.Path.{_≡_, refl, sym, ap, _∙_, subst}
+use mathlib.Core.Bool.{Bool, true, false, cond}
+use mathlib.Core.Option.{Option, none, some}
+use mathlib.Core.List.{List, [], _∷_, _++_, append-nil}
+use native.Mathlib.Omega.{arith}
+use borrow.Author.Tests.{lt-ltb, le-ltb}
+use lib.ListN.{length, take, drop, length-append, length-take}
+use lib.Seq.{take-all}
+use lib.Dec.{ltb}
+use Rattle.label.specs.declared.WriteReason.{WriteReason}
+use Rattle.label.specs.declared.WriteReason.the-variants.{BadRows, NoSuchMessage, NoOutputRoom}
+use Rattle.label.specs.declared.Writing.{Writing}
+use Rattle.label.specs.declared.Writing.the-variants.{Written, Declined}
+use Rattle.label.specs.Bytes.{Bytes}
+use Rattle.label.specs.Limits.{longest, rowWidth}
+use Rattle.label.specs.Formats.{edition2005}
+use Rattle.label.specs.Layout.{Item, itemsOf}
+use Rattle.label.specs.Message.{header, messageParts, rowsOf}
+use Rattle.label.specs.ReadMessage.{Outcome, read, refused, reading}
+use Rattle.label.specs.Answer.{rowsRead}
+use Rattle.label.specs.Rendered.{rendered}
+use Rattle.label.specs.Writing.{rowsIn, rowsStand, itemsIn, ifSame, composed, Composition, written, declined, fitting, writing, writeAnswerOf, writeAnswer, outputAfter}
+use Rattle.label.proofs.Cases.{all-definitions}
+use Rattle.label.proofs.Promises.{accepted-is-good}
+use Rattle.label.proofs.Rendering.{rendered-good}
+use Rattle.label.proofs.Composing.{composed-good, bad-rows, rows-fit, answer-numbers, output-bytes}
+use Rattle.writer.specs.Given.{alike}
+use Rattle.writer.specs.Laying.{Laying, Composes}
+use Rattle.writer.proofs.GivenLaws.{stands-so}
+use Rattle.writer.proofs.Comparing.{same-as-like, rows-like, rows-counted, not-as-many}
+
+from-nothing : composed edition2005 [] ≡ none
+unfolding all-definitions
+from-nothing = refl
+
+rendered-some : (is : List Item) → 0 < length (rendered edition2005 is)
+unfolding rendered
+rendered-some [] = omega arith
+rendered-some (i ∷ is) = omega arith
+
+module _ (held : Bytes) (ns : List ℕ) where
+  abbrev items : List Item
+  items = itemsIn held ns
+
+  abbrev laid : Bytes
+  laid = rendered edition2005 items
+
+  -- what is laid out is composed where its rows are alike those given
+  composed-by-rows : rowsStand held ns ≡ true → 0 < length ns
+      → composed edition2005 items ≡ cond (alike (rowsRead (reading edition2005 laid)) (rowsIn ns)) (some laid) none
+  unfolding composed rowsOf
+  composed-by-rows stand more = by (reading edition2005 laid) refl
+    where
+      by : (o : Outcome) → reading edition2005 laid ≡ o → ifSame items laid o ≡ cond (alike (rowsRead o) (rowsIn ns)) (some laid) none
+      by (read es) says =
+          let renders = rendered-good edition2005 laid es (accepted-is-good edition2005 laid es says) in
+          ap (λ t. cond t (some laid) none)
+          (same-as-like edition2005 (itemsOf (messageParts es)) items renders ∙ sym (rows-like held 0 (messageParts es) (rowsIn ns) (stands-so held ns stand .lie)))
+      by (refused r p) says =
+          ap (λ t. cond t (some laid) none)
+          (not-as-many [] (rowsIn ns) (λ same. omega (arith, rows-counted ns, stands-so held ns stand .whole)))
+
+  pub composed-compared : rowsStand held ns ≡ true → 0 < length ns → (m : Bytes) → m ≡ laid → (t : Bool) → t ≡ alike (rowsRead (reading edition2005 m)) (rowsIn ns)
+      → composed edition2005 items ≡ cond t (some laid) none
+  composed-compared stand more m is t says =
+      composed-by-rows stand more ∙ ap (λ t. cond t (some laid) none) (sym (says ∙ ap (λ m. alike (rowsRead (reading edition2005 m)) (rowsIn ns)) is))
+
+  -- what is too long is not composed
+  pub composed-not-long : longest < length laid → composed edition2005 items ≡ none
+  composed-not-long long = by (composed edition2005 items) refl
+    where
+      by : (c : Option Bytes) → composed edition2005 items ≡ c → c ≡ none
+      by none is = refl
+      by (some m) is =
+          let with = composed-good edition2005 items m is in
+          let renders : laid ≡ m = sym (ap (rendered edition2005) (with .items)) ∙ rendered-good edition2005 m (with .envelopes) (with .good) in
+          absurd (omega (arith, ap length renders, with .good .notTooLong))
+
+  -- without rows nothing is composed
+  pub composed-not-empty : length ns ≡ 0 → composed edition2005 items ≡ none
+  composed-not-empty empty = by ns empty
+    where
+      by : (ns : List ℕ) → length ns ≡ 0 → composed edition2005 (itemsIn held ns) ≡ none
+      by [] empty = from-nothing
+      by (n ∷ ns) empty = absurd (omega arith)
+
+  -- what is composed is not empty
+  composed-some : (m : Bytes) → composed edition2005 items ≡ some m → 0 < length m
+  composed-some m is =
+      let with = composed-good edition2005 items m is in
+      let renders = rendered-good edition2005 m (with .envelopes) (with .good) in
+      omega (arith, ap length renders, rendered-some (itemsOf (messageParts (with .envelopes))))
+
+  pub composes-none : (r : ℕ) (out : Bytes) → composed edition2005 items ≡ none → r ≡ 0 → Composes (composed edition2005 items) r out
+  composes-none r out is zero = subst (λ (c : Option Bytes). Composes c r out) (sym is) zero
+
+  pub laid-there : (r : ℕ) (out : Bytes) → Laying laid [] r out → r ≤ length out → take r out ≡ laid
+  laid-there r out laying inside = sym (append-nil (take r out)) ∙ laying .fits inside
+
+  pub composes-laid : (r : ℕ) (out : Bytes) → composed edition2005 items ≡ some laid → Laying laid [] r out → r ≤ length out → Composes (composed edition2005 items) r out
+  composes-laid r out is laying inside =
+      let there = laid-there r out laying inside in
+      subst (λ (c : Option Bytes). Composes c r out) (sym is) (omega (arith, ap length there, length-take r out), there)
+
+  -- what is composed lies in the buffer
+  pub composes-inside : (r : ℕ) (out : Bytes) → Composes (composed edition2005 items) r out → r ≤ length out
+  composes-inside r out composes = by (composed edition2005 items) composes
+    where
+      by : (c : Option Bytes) → Composes c r out → r ≤ length out
+      by none so = omega arith
+      by (some m) so = omega (arith, so .0, ap length (so .1), length-take r out)
+
+  -- an answer, and the output afterwards, as the definitions have them
+  pub record Answers (output out : Bytes) (a : Writing) : Type 0 where
+    pub answer : writeAnswerOf a ≡ writeAnswer edition2005 held ns (length output)
+    pub bytes : out ≡ outputAfter edition2005 held ns output
+
+  declines : (output : Bytes) (reason : WriteReason) → writing edition2005 held ns (length output) ≡ declined reason → Answers output output (Declined reason)
+  declines output reason says = record {
+    answer = sym (answer-numbers edition2005 held ns (length output) (declined reason) says);
+    bytes = sym (output-bytes edition2005 held ns output (declined reason) says);
+  }
+
+  module _ (output : Bytes) where
+    pub answers-bad-rows : rowsStand held ns ≡ false → Answers output output (Declined BadRows)
+    answers-bad-rows fall = declines output BadRows (bad-rows edition2005 held ns (length output) fall)
+
+    module _ (stand : rowsStand held ns ≡ true) (r : ℕ) (candidate : Bytes) (composes : Composes (composed edition2005 items) r candidate) where
+      pub answers-none : r ≡ 0 → Answers output output (Declined NoSuchMessage)
+      answers-none zero = by (composed edition2005 items) refl composes
+        where
+          by : (c : Option Bytes) → composed edition2005 items ≡ c → Composes c r candidate → Answers output output (Declined NoSuchMessage)
+          by none is so = declines output NoSuchMessage (rows-fit edition2005 held ns (length output) none stand is)
+          by (some m) is so = absurd (omega (arith, so .0, composed-some m is))
+
+      pub answers-no-room : (r ≡ 0 → ⊥) → length output < r → Answers output output (Declined NoOutputRoom)
+      answers-no-room more short = by (composed edition2005 items) refl composes
+        where
+          by : (c : Option Bytes) → composed edition2005 items ≡ c → Composes c r candidate → Answers output output (Declined NoOutputRoom)
+          by none is so = absurd (more so)
+          by (some m) is so =
+              declines output NoOutputRoom
+              (rows-fit edition2005 held ns (length output) (some m) stand is
+              ∙ ap (λ t. cond t (declined NoOutputRoom) (written m)) (lt-ltb (length output) (length m) (omega (arith, so .0))))
+
+      pub answers-written : (r ≡ 0 → ⊥) → r ≤ length output → (n : ℕ) (out : Bytes) → n ≡ length (take r candidate)
+          → out ≡ take (length (take r candidate)) (take r candidate) ++ drop (length (take r candidate)) output → Answers output out (Written n)
+      answers-written more room n out counted is-out = by (composed edition2005 items) refl composes
+        where
+          by : (c : Option Bytes) → composed edition2005 items ≡ c → Composes c r candidate → Answers output out (Written n)
+          by none is so = absurd (more so)
+          by (some m) is so =
+              let says = rows-fit edition2005 held ns (length output) (some m) stand is
+              ∙ ap (λ t. cond t (declined NoOutputRoom) (written m)) (le-ltb (length output) (length m) (omega (arith, so .0))) in
+              record {
+                answer = ap (λ n. 0 ∷ n ∷ []) (counted ∙ ap length (so .1)) ∙ sym (answer-numbers edition2005 held ns (length output) (written m) says);
+                bytes = is-out ∙ ap (λ l. take (length l) l ++ drop (length l) output) (so .1) ∙ ap (λ l. l ++ drop (length m) output) (take-all (length m) m (omega arith))
+                    ∙ sym (output-bytes edition2005 held ns output (written m) says);
+              }

@@ -1,0 +1,5 @@
+pub mod MarkLaws
+pub mod GivenLaws
+pub mod LayingLaws
+pub mod Comparing
+pub mod Composed

@@ -1,0 +1,93 @@
+-- `compose` lays out, reads back and compares.
+use Prim.Native.Nat.{_<_}
+use mathlib.Core.Path.{_≡_, refl, sym, ap, _∙_}
+use mathlib.Core.Bool.{true, false, cond}
+use mathlib.Core.Option.{none, some}
+use native.Mathlib.Omega.{arith}
+use borrow.Author.Needs.{needs}
+use lib.ListN.{length, take, length-take}
+use Rattle.label.specs.Formats.{edition2005}
+use Rattle.label.specs.Rendered.{rendered}
+use Rattle.label.specs.Writing.{itemsIn}
+use Rattle.writer.proofs.GivenLaws.{stands-so}
+use Rattle.writer.proofs.Composed.{composed-compared, composed-not-long, composed-not-empty, composes-none, laid-there, composes-laid}
+use Rattle.writer.proofs.compose.Statement.{statement}
+use Rattle.writer.proofs.compose.Tie as tie
+
+returns : tie.Need-returns
+returns c =
+    let args = c .before .before .before .before .args in
+    composes-none (args .held .now) (args .rows .now) 0 (args .out .now) (composed-not-empty (args .held .now) (args .rows .now) (c .if1 .taken)) refl
+
+lay-out-requires : tie.Need-lay-out-requires
+lay-out-requires c κs = search needs
+
+same-length : tie.Need-same-length
+same-length c = search needs
+
+returns-2 : tie.Need-returns-2
+returns-2 c =
+    let args = c .before .before .before .before .before .before .before .before .before .args in
+    let laid = c .before .before .before .lay-out in
+    let long = laid .ensures .over (c .if2 .taken) in
+    composes-none (args .held .now) (args .rows .now) 0 (laid .last .1 .1 .0)
+    (composed-not-long (args .held .now) (args .rows .now) (omega (arith, long))) refl
+
+slice-reshare-prefix-same-rows : tie.Need-slice-reshare-prefix-same-rows
+slice-reshare-prefix-same-rows c = search needs
+
+slice-aggregate-same-rows : tie.Need-slice-aggregate-same-rows
+slice-aggregate-same-rows c =
+    let laid = c .before .before .before .before .lay-out in
+    omega (arith, length-take (laid .result) (laid .last .1 .1 .0), c .before .if2 .left)
+
+same-rows-requires : tie.Need-same-rows-requires
+same-rows-requires c κs =
+    let args = c .before .before .before .before .before .before .before .before .before .before .args in
+    stands-so (args .held .now) (args .rows .now) (c .before .before .before .before .before .before .before .before .before .before .pre .stand) .whole
+
+same-length-2 : tie.Need-same-length-2
+same-length-2 c = search needs
+
+returns-3 : tie.Need-returns-3
+returns-3 c =
+    let args = c .before .before .before .before .before .before .before .before .before .before .before .before .args in
+    let held = args .held .now in
+    let ns = args .rows .now in
+    let laid = c .before .before .before .before .before .before .lay-out in
+    let inside = c .before .before .before .if2 .left in
+    let there = laid-there held ns (laid .result) (laid .last .1 .1 .0) (laid .ensures) inside in
+    let more : 0 < length ns = omega (arith, c .before .before .before .before .before .before .before .before .if1 .left) in
+    let is = composed-compared held ns (c .before .before .before .before .before .before .before .before .before .before .before .before .pre .stand) more (take (laid .result) (laid .last .1 .1 .0)) there (c .before .same-rows .result) (c .before .same-rows .ensures) in
+    composes-laid held ns (laid .result) (laid .last .1 .1 .0) (is ∙ ap (λ t. cond t (some (rendered edition2005 (itemsIn held ns))) none) (c .if3 .taken)) (laid .ensures) inside
+
+same-length-3 : tie.Need-same-length-3
+same-length-3 c = search needs
+
+returns-4 : tie.Need-returns-4
+returns-4 c =
+    let args = c .before .before .before .before .before .before .before .before .before .before .before .before .args in
+    let held = args .held .now in
+    let ns = args .rows .now in
+    let laid = c .before .before .before .before .before .before .lay-out in
+    let inside = c .before .before .before .if2 .left in
+    let there = laid-there held ns (laid .result) (laid .last .1 .1 .0) (laid .ensures) inside in
+    let more : 0 < length ns = omega (arith, c .before .before .before .before .before .before .before .before .if1 .left) in
+    let is = composed-compared held ns (c .before .before .before .before .before .before .before .before .before .before .before .before .pre .stand) more (take (laid .result) (laid .last .1 .1 .0)) there (c .before .same-rows .result) (c .before .same-rows .ensures) in
+    composes-none held ns 0 (laid .last .1 .1 .0) (is ∙ ap (λ t. cond t (some (rendered edition2005 (itemsIn held ns))) none) (c .if3 .left)) refl
+
+pub compose-spec : {M : Type 1} → statement M
+compose-spec =
+    tie.close
+    (tie.spec
+    returns
+    lay-out-requires
+    same-length
+    returns-2
+    slice-reshare-prefix-same-rows
+    slice-aggregate-same-rows
+    same-rows-requires
+    same-length-2
+    returns-3
+    same-length-3
+    returns-4)

@@ -1,0 +1,102 @@
+-- `same_rows` walks over the message's rows and those given. The loop's invariant: whether those left are alike is whether all are.
+use Prim.Native.Nat.{_+_, _-_}
+use mathlib.Core.Path.{_≡_, sym, _∙_, subst}
+use native.Mathlib.Omega.{arith}
+use borrow.Author.Needs.{needs}
+use borrow.Author.Tests.{not-true, not-false}
+use lib.ListN.{length}
+use Rattle.label.specs.Limits.{rowWidth}
+use Rattle.label.specs.Formats.{edition2005}
+use Rattle.label.specs.ReadMessage.{reading}
+use Rattle.label.specs.Answer.{rowsRead}
+use Rattle.label.specs.Writing.{rowsIn}
+use Rattle.reader.specs.declared.Cursor.{Cursor}
+use Rattle.reader.proofs.Walks.{Yields}
+use Rattle.reader.proofs.Promises.{walked}
+use Rattle.writer.proofs.GivenLaws.{next-whole}
+use Rattle.writer.proofs.Comparing.{rows-counted, not-as-many, Compared, compared-first, compared-differs, compared-next, compared-last}
+use Rattle.writer.proofs.same_rows.Statement.{statement}
+use Rattle.writer.proofs.same_rows.Tie as tie
+
+abbrev Inv-loop : tie.InvT-loop
+Inv-loop m rows c₀ i₀ c i = Compared m (rowsRead (reading edition2005 m)) rows c i
+
+abbrev μ-loop : tie.MeasureT-loop
+μ-loop m rows c₀ i₀ c i = length rows - i
+
+rows-of-requires : tie.Need-rows-of-requires Inv-loop μ-loop
+rows-of-requires c κs = search needs
+
+returns : tie.Need-returns Inv-loop μ-loop
+returns c =
+    let args = c .before .before .before .before .args in
+    let all = rowsRead (reading edition2005 (args .m .now)) in
+    not-as-many all (rowsIn (args .rows .now)) (λ same. c .if1 .taken (c .before .rows-of .ensures ∙ same ∙ rows-counted (args .rows .now)))
+
+first-requires : tie.Need-first-requires Inv-loop μ-loop
+first-requires c κs = search needs
+
+loop-holds : tie.Need-loop-holds Inv-loop μ-loop
+loop-holds c =
+    let args = c .before .before .before .before .before .args in
+    let m = args .m .now in
+    let all = rowsRead (reading edition2005 m) in
+    compared-first m all (args .rows .now) (c .first .result) (subst (λ (at : Cursor). Yields m at all) (sym (c .first .ensures)) (walked m .yields))
+    (sym (c .before .before .rows-of .ensures) ∙ c .before .if1 .left ∙ sym (rows-counted (args .rows .now)))
+
+like-requires : tie.Need-like-requires Inv-loop μ-loop
+like-requires c κs =
+    let at = c .before .loop in
+    next-whole (c .before .before .before .before .before .before .before .args .rows .now) (at .i) (c .before .before .before .before .before .before .before .pre) (at .inv .even) (c .loop-test .taken)
+
+returns-2 : tie.Need-returns-2 Inv-loop μ-loop
+returns-2 c =
+    let args = c .before .before .before .before .before .before .before .before .before .args in
+    let m = args .m .now in
+    let at = c .before .before .before .loop in
+    compared-differs m (rowsRead (reading edition2005 m)) (args .rows .now) (at .c) (at .i) (c .before .before .before .before .before .before .before .before .before .pre) (at .inv) (c .before .before .loop-test .taken)
+    (sym (c .before .like .ensures) ∙ not-true (c .before .like .result) (c .if2 .taken))
+
+next-requires : tie.Need-next-requires Inv-loop μ-loop
+next-requires c κs = search needs
+
+add-i : tie.Need-add-i Inv-loop μ-loop
+add-i c = search needs
+
+loop-less : tie.Need-loop-less Inv-loop μ-loop
+loop-less c = search needs
+
+loop-again : tie.Need-loop-again Inv-loop μ-loop
+loop-again c =
+    let args = c .before .before .before .before .before .before .before .before .before .before .args in
+    let m = args .m .now in
+    let ns = args .rows .now in
+    let all = rowsRead (reading edition2005 m) in
+    let at = c .before .before .before .before .loop in
+    subst (λ (next : Cursor). Compared m all ns next (at .i + rowWidth)) (sym (c .next .ensures))
+    (compared-next m all ns (at .c) (at .i) (c .before .before .before .before .before .before .before .before .before .before .pre) (at .inv) (c .before .before .before .loop-test .taken) (sym (c .before .before .like .ensures) ∙ not-false (c .before .before .like .result) (c .before .if2 .left)))
+
+returns-3 : tie.Need-returns-3 Inv-loop μ-loop
+returns-3 c =
+    let args = c .before .before .before .before .before .before .before .args in
+    let m = args .m .now in
+    let at = c .before .loop in
+    compared-last m (rowsRead (reading edition2005 m)) (args .rows .now) (at .c) (at .i) (at .inv) (c .loop-test .left)
+
+pub same-rows-spec : {M : Type 1} → statement M
+same-rows-spec =
+    tie.close
+    (tie.spec
+    Inv-loop
+    μ-loop
+    rows-of-requires
+    returns
+    first-requires
+    loop-holds
+    like-requires
+    returns-2
+    next-requires
+    add-i
+    loop-less
+    loop-again
+    returns-3)

@@ -1,0 +1,72 @@
+// The rows that are given: whether they stand, one of them, and whether a cursor's row is like one.
+use label::MOST_ROWS;
+use reader::Cursor;
+ghost use mathlib.Core.Path.{_≡_};
+ghost use Prim.Native.Nat.{_+_, _≤_};
+ghost use lib.ListN.{length};
+ghost use Rattle.label.specs.Bytes.{every};
+ghost use Rattle.label.specs.Limits.{rowWidth};
+ghost use Rattle.label.specs.Writing.{rowsIn, inside, rowsStand};
+ghost use Rattle.reader.specs.Cursors.{rowOf};
+ghost use Rattle.writer.specs.Given.{Whole, asRow, rowFrom, alikeRow};
+
+// A row's four numbers.
+pub struct Given {
+    pub kind: u32,
+    pub format: u32,
+    pub start: u32,
+    pub length: u32,
+}
+
+// The row from an index on.
+pub(crate) fn row_from(rows: &[u32], at: usize) -> Given
+    requires { ⌜ at + rowWidth ≤ length (now rows) ⌝ }
+    ensures { λ r. ⌜ asRow r ≡ rowFrom (now (rows .entry)) at ⌝ }
+{
+    Given {
+        kind: rows[at],
+        format: rows[at + 1],
+        start: rows[at + 2],
+        length: rows[at + 3],
+    }
+}
+
+// Whether every row's stretch lies in the data. Two 32-bit numbers are added as 64-bit ones, so that nothing wraps.
+fn all_inside(held: &[u8], rows: &[u32]) -> bool
+    requires { ⌜ Whole (now rows) ⌝ }
+    ensures { λ r. ⌜ r ≡ every (inside (now (held .entry))) (rowsIn (now (rows .entry))) ⌝ }
+{
+    let long = held.len();
+    let mut ok = true;
+    let mut i = 0;
+    while i < rows.len() {
+        let row = row_from(rows, i);
+        ok = ok & ((row.start as usize) + (row.length as usize) <= long);
+        i += 4;
+    }
+    ok
+}
+
+// Whether the rows are whole, not too many, and their stretches in the data.
+pub(crate) fn rows_stand(held: &[u8], rows: &[u32]) -> bool
+    ensures { λ r. ⌜ r ≡ rowsStand (now (held .entry)) (now (rows .entry)) ⌝ }
+{
+    if rows.len() % 4 != 0 {
+        return false;
+    }
+    if MOST_ROWS < rows.len() / 4 {
+        return false;
+    }
+    all_inside(held, rows)
+}
+
+// Whether the row that a cursor stands at has the kind, the format and the length of the row from an index on.
+pub(crate) fn like(c: Cursor, rows: &[u32], at: usize) -> bool
+    requires { ⌜ at + rowWidth ≤ length (now rows) ⌝ }
+    ensures { λ r. ⌜ r ≡ alikeRow (rowOf c) (rowFrom (now (rows .entry)) at) ⌝ }
+{
+    let row = row_from(rows, at);
+    let stage = c.stage;
+    let kind = reader::kind_of(stage);
+    (kind == row.kind) & (c.format == row.format) & (c.length == row.length as usize)
+}

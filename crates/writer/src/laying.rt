@@ -1,0 +1,82 @@
+// Laying a message out in a buffer: bytes are put one behind the other, and an offset outside the buffer says that there was
+// no room for them.
+use crate::given::row_from;
+use crate::marks::Marks;
+use crate::marks::between;
+use crate::marks::ending_of;
+use crate::marks::heading;
+ghost use Prim.Native.Nat.{_≤_};
+ghost use mathlib.Core.Path.{_≡_};
+ghost use mathlib.Core.List.{[], _++_};
+ghost use lib.ListN.{length};
+ghost use Rattle.label.specs.Limits.{longest};
+ghost use Rattle.label.specs.Formats.{edition2005};
+ghost use Rattle.label.specs.Rendered.{rendered};
+ghost use Rattle.label.specs.Writing.{itemIn, itemsIn};
+ghost use Rattle.writer.specs.Marks.{marksOf};
+ghost use Rattle.writer.specs.Given.{rowFrom};
+ghost use Rattle.writer.specs.Laying.{RowAt, Put, Laying, marksBefore, Ready, Stand};
+
+// Puts bytes into a buffer from an offset on, and answers the offset behind them.
+fn put(out: &mut [u8], at: usize, new: &[u8]) -> usize
+    requires { ⌜ length (now out) ≡ longest ⌝ }
+    ensures { λ r. ⌜ Put (now (out .entry)) at (now (new .entry)) (now (out .exit)) r ⌝ }
+{
+    if out.len() < at {
+        return at;
+    }
+    if out.len() - at < new.len() {
+        return out.len() + 1;
+    }
+    at + bytes::copy(new, &mut out[at..])
+}
+
+// Puts marks.
+fn put_marks(out: &mut [u8], at: usize, marks: Marks) -> usize
+    requires { ⌜ length (now out) ≡ longest ⌝ }
+    requires { ⌜ marks .count ≤ length (marks .bytes) ⌝ }
+    ensures { λ r. ⌜ Put (now (out .entry)) at (marksOf marks) (now (out .exit)) r ⌝ }
+{
+    let bytes = marks.bytes;
+    let count = marks.count;
+    put(out, at, &bytes[..count])
+}
+
+// What stands before the row from an index on.
+fn marks_before(rows: &[u32], i: usize) -> Marks
+    requires { ⌜ RowAt (now rows) i ⌝ }
+    ensures few { λ r. ⌜ r .count ≤ length (r .bytes) ⌝ }
+    ensures marks { λ r. ⌜ marksOf r ≡ marksBefore (now (rows .entry)) i ⌝ }
+{
+    if i == 0 {
+        return heading();
+    }
+    between(rows[i + 1], rows[i - 4], rows[i])
+}
+
+// Puts a row: what stands before it, and its content.
+fn put_row(held: &[u8], rows: &[u32], i: usize, out: &mut [u8], at: usize) -> usize
+    requires { ⌜ Ready (now held) (now rows) i (now out) ⌝ }
+    ensures { λ r. ⌜ Put (now (out .entry)) at (marksBefore (now (rows .entry)) i ++ itemIn (now (held .entry)) (rowFrom (now (rows .entry)) i) .content) (now (out .exit)) r ⌝ }
+{
+    let row = row_from(rows, i);
+    let start = row.start as usize;
+    let end = start + row.length as usize;
+    let behind = put_marks(out, at, marks_before(rows, i));
+    put(out, behind, &held[start..end])
+}
+
+// Lays out the message of the rows, and answers its length; one that lies outside the buffer where the message is longer.
+pub(crate) fn lay_out(held: &[u8], rows: &[u32], out: &mut [u8]) -> usize
+    requires { ⌜ Stand (now held) (now rows) (now out) ⌝ }
+    ensures { λ r. ⌜ Laying (rendered edition2005 (itemsIn (now (held .entry)) (now (rows .entry)))) [] r (now (out .exit)) ⌝ }
+{
+    let mut at = 0;
+    let mut i = 0;
+    while i < rows.len() {
+        at = put_row(held, rows, i, out, at);
+        i += 4;
+    }
+    let last = row_from(rows, i - 4);
+    put_marks(out, at, ending_of(last.format, last.kind))
+}

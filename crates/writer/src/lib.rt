@@ -1,0 +1,78 @@
+// Writing rows: they are laid out in local memory as the one message that they can have, that message is read back and
+// compared with them, and only then is it copied into the lent output (01, Numbers for the receiving desk, paragraph Writer).
+mod given;
+mod laying;
+mod marks;
+
+use label::WriteReason;
+use label::Writing;
+ghost use mathlib.Core.Path.{_≡_};
+ghost use lib.ListN.{length};
+ghost use Rattle.label.specs.Formats.{edition2005};
+ghost use Rattle.label.specs.ReadMessage.{reading};
+ghost use Rattle.label.specs.Answer.{rowsRead};
+ghost use Rattle.label.specs.Writing.{rowsIn, itemsIn, composed, writeAnswerOf, writeAnswer, outputAfter};
+ghost use Rattle.writer.specs.Given.{Whole, alike};
+ghost use Rattle.writer.specs.Laying.{Buffered, Composes};
+
+// Whether a message is read, and its rows have the kinds, formats and lengths of those given.
+fn same_rows(m: &[u8], rows: &[u32]) -> bool
+    requires { ⌜ Whole (now rows) ⌝ }
+    ensures { λ r. ⌜ r ≡ alike (rowsRead (reading edition2005 (now (m .entry)))) (rowsIn (now (rows .entry))) ⌝ }
+{
+    if reader::rows_of(m) != rows.len() / 4 {
+        return false;
+    }
+    let mut c = reader::first(m);
+    let mut i = 0;
+    while i < rows.len() {
+        if !given::like(c, rows, i) {
+            return false;
+        }
+        c = reader::next(m, c);
+        i += 4;
+    }
+    true
+}
+
+// Puts the good message with these rows' kinds, formats and contents into the first bytes of a buffer, and answers how many
+// they are; 0 where there is no such message. Rows of the same lengths that are laid out alike have the same contents, so
+// that no content is compared.
+fn compose(held: &[u8], rows: &[u32], out: &mut [u8]) -> usize
+    requires { ⌜ Buffered (now held) (now rows) (now out) ⌝ }
+    ensures { λ r. ⌜ Composes (composed edition2005 (itemsIn (now (held .entry)) (now (rows .entry)))) r (now (out .exit)) ⌝ }
+{
+    if rows.len() == 0 {
+        return 0;
+    }
+    let count = laying::lay_out(held, rows, out);
+    if out.len() < count {
+        return 0;
+    }
+    if same_rows(&out[..count], rows) {
+        count
+    } else {
+        0
+    }
+}
+
+// Writes rows, four numbers each, that name stretches of the data held, to an output; all of any length. Written: how many
+// bytes, and the output's first bytes are the message; what follows them stays as it was. Declined: why, and the output stays
+// as it was.
+pub fn write(held: &[u8], rows: &[u32], output: &mut [u8]) -> Writing
+    ensures answer { λ r. ⌜ writeAnswerOf r ≡ writeAnswer edition2005 (now (held .entry)) (now (rows .entry)) (length (now (output .entry))) ⌝ }
+    ensures bytes { λ _. ⌜ now (output .exit) ≡ outputAfter edition2005 (now (held .entry)) (now (rows .entry)) (now (output .entry)) ⌝ }
+{
+    if !given::rows_stand(held, rows) {
+        return Writing::Declined(WriteReason::BadRows);
+    }
+    let mut candidate = [0u8; 4096];
+    let count = compose(held, rows, &mut candidate);
+    if count == 0 {
+        return Writing::Declined(WriteReason::NoSuchMessage);
+    }
+    if output.len() < count {
+        return Writing::Declined(WriteReason::NoOutputRoom);
+    }
+    Writing::Written(bytes::copy(&candidate[..count], output))
+}

@@ -1,0 +1,133 @@
+// The marks around rows: before the first, between two, behind the last. Which they are follows from kinds and formats.
+use leaves::EOT;
+use leaves::FS;
+use leaves::GS;
+use leaves::RS;
+use leaves::US;
+use reader::Shape;
+ghost use Prim.Native.Nat.{_≤_};
+ghost use mathlib.Core.Path.{_≡_};
+ghost use mathlib.Core.Bool.{_&&_};
+ghost use mathlib.Core.List.{[], _∷_};
+ghost use lib.ListN.{length};
+ghost use lib.Dec.{leb};
+ghost use Rattle.label.specs.Formats.{edition2005, ruleOf};
+ghost use Rattle.label.specs.Written.{tagRow, subElementRow};
+ghost use Rattle.label.specs.Message.{header};
+ghost use Rattle.label.specs.Rendered.{beforeValue, closing, marksBetween, ending};
+ghost use Rattle.writer.specs.Marks.{marksOf};
+
+// Some marks: as many of the bytes as count says. `marksOf` of specs/Marks has them.
+pub struct Marks {
+    pub bytes: [u8; 4],
+    pub count: usize,
+}
+
+fn none() -> Marks
+    ensures few { λ r. ⌜ r .count ≤ length (r .bytes) ⌝ }
+    ensures marks { λ r. ⌜ marksOf r ≡ [] ⌝ }
+{
+    Marks {
+        bytes: [0, 0, 0, 0],
+        count: 0,
+    }
+}
+
+fn one(b: u8) -> Marks
+    ensures few { λ r. ⌜ r .count ≤ length (r .bytes) ⌝ }
+    ensures marks { λ r. ⌜ marksOf r ≡ b ∷ [] ⌝ }
+{
+    Marks {
+        bytes: [b, 0, 0, 0],
+        count: 1,
+    }
+}
+
+// The message's header.
+pub(crate) fn heading() -> Marks
+    ensures few { λ r. ⌜ r .count ≤ length (r .bytes) ⌝ }
+    ensures marks { λ r. ⌜ marksOf r ≡ header ⌝ }
+{
+    Marks {
+        bytes: [0x5B, 0x29, 0x3E, RS],
+        count: 4,
+    }
+}
+
+// Before a header value, by the format.
+fn before_value(format: u32) -> Marks
+    ensures few { λ r. ⌜ r .count ≤ length (r .bytes) ⌝ }
+    ensures marks { λ r. ⌜ marksOf r ≡ beforeValue (ruleOf edition2005 format) ⌝ }
+{
+    let shape = reader::shape_of(format);
+    match shape {
+        Shape::Segments => none(),
+        _ => one(GS),
+    }
+}
+
+// Whether a row of a kind stands in a segment.
+fn in_segment(p: u32) -> bool
+    ensures { λ r. ⌜ r ≡ leb tagRow p && leb p subElementRow ⌝ }
+{
+    (4 <= p) & (p <= 6)
+}
+
+// Behind an envelope whose last row has a kind: FS ends a segment, RS the envelope.
+fn closing_of(p: u32) -> Marks
+    ensures few { λ r. ⌜ r .count ≤ length (r .bytes) ⌝ }
+    ensures marks { λ r. ⌜ marksOf r ≡ closing p ⌝ }
+{
+    if in_segment(p) {
+        return Marks {
+            bytes: [FS, RS, 0, 0],
+            count: 2,
+        };
+    }
+    one(RS)
+}
+
+// Between a row of kind p and a row of kind k in a format.
+pub(crate) fn between(format: u32, p: u32, k: u32) -> Marks
+    ensures few { λ r. ⌜ r .count ≤ length (r .bytes) ⌝ }
+    ensures marks { λ r. ⌜ marksOf r ≡ marksBetween (ruleOf edition2005 format) p k ⌝ }
+{
+    match k {
+        1 => closing_of(p),
+        2 => before_value(format),
+        3 => if p == 2 { none() } else { one(GS) },
+        4 => if p == 2 {
+            Marks {
+                bytes: [FS, GS, US, 0],
+                count: 3,
+            }
+        } else {
+            one(FS)
+        },
+        5 => one(GS),
+        6 => one(US),
+        _ => if p == 2 { one(GS) } else { none() },
+    }
+}
+
+// Behind the last row, of kind p: the envelope's and the message's end; nothing where the format takes all the rest.
+pub(crate) fn ending_of(format: u32, p: u32) -> Marks
+    ensures few { λ r. ⌜ r .count ≤ length (r .bytes) ⌝ }
+    ensures marks { λ r. ⌜ marksOf r ≡ ending (ruleOf edition2005 format) p ⌝ }
+{
+    let shape = reader::shape_of(format);
+    match shape {
+        Shape::Rest => none(),
+        _ => if in_segment(p) {
+            Marks {
+                bytes: [FS, RS, EOT, 0],
+                count: 3,
+            }
+        } else {
+            Marks {
+                bytes: [RS, EOT, 0, 0],
+                count: 2,
+            }
+        },
+    }
+}
