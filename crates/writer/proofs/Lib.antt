@@ -3,3 +3,4 @@ pub mod GivenLaws
 pub mod LayingLaws
 pub mod Comparing
 pub mod Composed
+pub mod RoundLaws

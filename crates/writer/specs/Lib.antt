@@ -1,3 +1,4 @@
 pub mod Marks
 pub mod Given
 pub mod Laying
+pub mod Round
