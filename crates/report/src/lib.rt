@@ -1,11 +1,14 @@
-// A reading in the paper's numbers, and printed as document 01 has it under 'Cartons to try'.
+// A reading in the paper's numbers, and printed as document 01 has it under 'Cartons to try'; and what the writer answers.
 ghost use mathlib.Core.Path.{_≡_};
 ghost use Prim.Native.Nat.{_+_, min};
 ghost use lib.ListN.{length, set};
 ghost use Rattle.io.specs.Counts.{Counts};
 ghost use Rattle.label.specs.Answer.{number};
+ghost use Rattle.label.specs.Writing.{writeNumber};
 use label::Reading;
 use label::Reason;
+use label::WriteReason;
+use label::Writing;
 use libc::STDOUT_FILENO;
 
 // Room for a line of four numbers: each takes at most 20 digits and the byte behind it.
@@ -33,6 +36,25 @@ pub fn number_of(reason: Reason) -> u32
         Reason::NoRecordSeparator => 12,
         Reason::TooManyRows => 13,
         Reason::NoRoom => 14,
+    }
+}
+
+// The paper's number of a reason not to write.
+pub fn write_number_of(reason: WriteReason) -> u32
+    ensures { λ r. ⌜ r ≡ writeNumber reason ⌝ }
+{
+    match reason {
+        WriteReason::BadRows => 20,
+        WriteReason::NoSuchMessage => 21,
+        WriteReason::NoOutputRoom => 22,
+    }
+}
+
+// Prints the line of what the writer answers: 0 and the byte count, or the reason's number.
+pub fn print_writing(writing: Writing) {
+    match writing {
+        Writing::Written(count) => print_two(0, count as u64),
+        Writing::Declined(reason) => print_one(write_number_of(reason) as u64),
     }
 }
 
@@ -76,6 +98,12 @@ pub fn print_row(table: &[u32], row: usize) {
         let d = put_number(wide(table[at + 3]), b'\n', &mut line, c);
         io::write_all(STDOUT_FILENO, &line[..d]);
     }
+}
+
+fn print_one(x: u64) {
+    let mut line = [0u8; LINE];
+    let a = put_number(x, b'\n', &mut line, 0);
+    io::write_all(STDOUT_FILENO, &line[..a]);
 }
 
 fn print_two(x: u64, y: u64) {

@@ -143,7 +143,7 @@ fn put_run(run: Run, message: &mut [u8], from: usize) -> usize {
     at
 }
 
-fn within(n: usize, message: &[u8]) -> usize
+pub fn within(n: usize, message: &[u8]) -> usize
     ensures { λ r. ⌜ Counts r (now (message .entry)) ⌝ }
 {
     if n < message.len() { n } else { message.len() }

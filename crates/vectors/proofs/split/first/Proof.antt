@@ -1,11 +1,11 @@
--- `vectors::first` meets its contract: what is found behind `from` lies within what is left there.
+-- `vectors::split::first` meets its contract: what is found behind `from` lies within what is left there.
 use native.Mathlib.Omega.{arith}
 use borrow.Author.Needs.{needs}
 use lib.ListN.{length, drop, length-drop}
 use Rattle.io.proofs.Counting.{counts}
 use Rattle.vectors.proofs.Bound.{seek-within}
-use Rattle.vectors.proofs.first.Statement.{statement}
-use Rattle.vectors.proofs.first.Tie as tie
+use Rattle.vectors.proofs.split.first.Statement.{statement}
+use Rattle.vectors.proofs.split.first.Tie as tie
 
 find-requires : tie.Need-find-requires
 find-requires c κs = search needs
