@@ -1,19 +1,15 @@
 -- The thirteen cases of 01's table 'Proved', as one statement about the reading definition; and for those that are accepted, that the writing side
 -- has them too. All by computation. H is `[)>` RS.
 use mathlib.Core.Path.{_≡_, refl}
-use mathlib.Core.Bool.{true}
 use mathlib.Core.List.{List, [], _∷_, map, tail}
-use lib.ListN.{length}
-use lib.Dec.{T, leb, leb→le}
-use Rattle.label.specs.Bytes.{Bytes, ascii, EOT, GS, RS}
-use Rattle.label.specs.Limits.{longest, mostRows}
+use Rattle.label.specs.Bytes.{ascii, EOT, GS, RS}
 use Rattle.label.specs.Elements.{element06}
 use Rattle.label.specs.Segments.{tag03}
 use Rattle.label.specs.Formats.{edition2005, restByte, textByte}
 use Rattle.label.specs.Layout.{numbers}
-use Rattle.label.specs.Envelope.{Envelope, wholeRest, segments, elements, text, counted, Within}
-use Rattle.label.specs.Message.{message, rowsOf, Each, restOnlyAlone, Good}
-use Rattle.label.proofs.Cases.{Case, Stand, all-definitions}
+use Rattle.label.specs.Envelope.{Envelope, wholeRest, segments, elements, text, counted}
+use Rattle.label.specs.Message.{rowsOf, Each, Good}
+use Rattle.label.proofs.Cases.{Case, Stand, all-definitions, _and_, good}
 
 -- the message printed under 'Cartons to try': H `06` GS `1P7` GS `Q3` RS EOT
 abbrev pub carton : Case
@@ -106,26 +102,12 @@ accepted =
     ∷ record { case = allTheRest; envelopes = wholeRest 2 (ascii "X") ∷ [] }
     ∷ []
 
--- one envelope, within its rules: what is left of Good computes
-good-alone : (m : Bytes) (e : Envelope) → Within edition2005 e → restOnlyAlone (e ∷ []) ≡ true → T (leb (length m) longest) → T (leb (length (rowsOf (e ∷ []))) mostRows) → message (e ∷ []) ≡ m → Good edition2005 m (e ∷ [])
-good-alone m e w alone short few bytes =
-    record { oneOrMore = refl; within = (w, tt); onlyFirst = refl; onlyAlone = alone; notTooLong = leb→le _ _ short; notTooMany = leb→le _ _ few; writesOut = bytes }
-
 pub the-accepted-are-written : Each WrittenSo accepted
 unfolding all-definitions
-the-accepted-are-written = (
-  (good-alone _ _ (record { isElement = element06; known = refl; oneOrMore = refl; plainBytes = refl; asStated = refl }) refl tt tt refl, refl),
-  (
-    (good-alone _ _ (record { permitted = textByte; known = refl; permittedBytes = refl }) refl tt tt refl, refl),
-    (
-      (good-alone _ _ (record { known = refl; isType = refl; isCompression = refl; isCount = refl; counts = refl }) refl tt tt refl, refl),
-      (
-        (good-alone _ _ (record { isTag = tag03; known = refl; sixBytes = refl; oneOrMore = refl; plainBytes = refl; allTagged = refl }) refl tt tt refl, refl),
-        (
-          (good-alone _ _ (record { permitted = restByte; known = refl; notEmpty = refl; permittedBytes = refl }) refl tt tt refl, refl),
-          tt,
-        ),
-      ),
-    ),
-  ),
-)
+the-accepted-are-written =
+    (good _ _ (record { isElement = element06; known = refl; oneOrMore = refl; plainBytes = refl; asStated = refl } and tt) refl refl refl tt tt refl and refl)
+    and (good _ _ (record { permitted = textByte; known = refl; permittedBytes = refl } and tt) refl refl refl tt tt refl and refl)
+    and (good _ _ (record { known = refl; isType = refl; isCompression = refl; isCount = refl; counts = refl } and tt) refl refl refl tt tt refl and refl)
+    and (good _ _ (record { isTag = tag03; known = refl; sixBytes = refl; oneOrMore = refl; plainBytes = refl; allTagged = refl } and tt) refl refl refl tt tt refl and refl)
+    and (good _ _ (record { permitted = restByte; known = refl; notEmpty = refl; permittedBytes = refl } and tt) refl refl refl tt tt refl and refl)
+    and tt

@@ -1,0 +1,151 @@
+-- A good message of each format, each version and each position, so that no rule is one that nothing keeps (01, Envelope rules). Every list is written out
+-- by hand, and good by computation.
+use mathlib.Core.Path.{refl}
+use mathlib.Core.List.{List, [], _∷_}
+use Rattle.label.specs.Bytes.{ascii, EOT, GS, RS}
+use Rattle.label.specs.Values.{version02, version96}
+use Rattle.label.specs.Segments.{Segment, tag, tag03}
+use Rattle.label.specs.Elements.{element05, element06}
+use Rattle.label.specs.Formats.{edition2005, restByte, textByte}
+use Rattle.label.specs.Envelope.{Envelope, fields, wholeRest, segments, elements, text, counted, Within}
+use Rattle.label.specs.Message.{message, Each, Good}
+use Rattle.label.proofs.Cases.{all-definitions, _and_, good}
+
+-- 01: the five fields that must be there, the postal code empty, as version 02 allows
+abbrev leastTransport : Envelope
+leastTransport = fields 1 version02 ([] ∷ ascii "840" ∷ ascii "1" ∷ ascii "1Z" ∷ ascii "UPSN" ∷ [])
+
+-- 01: all fifteen fields of version 02, one left out in between
+abbrev mostTransport02 : Envelope
+mostTransport02 =
+    fields 1 version02
+    (ascii "841706672" ∷ ascii "840" ∷ ascii "001" ∷ ascii "1Z12345675" ∷ ascii "UPSN" ∷ ascii "12345E" ∷ ascii "089" ∷ [] ∷ ascii "1/1" ∷ ascii "10"
+    ∷ ascii "Y" ∷ ascii "STREET" ∷ ascii "CITY" ∷ ascii "UT" ∷ ascii "NAME" ∷ [])
+
+-- 01: all fourteen fields of version 96
+abbrev mostTransport96 : Envelope
+mostTransport96 =
+    fields 1 version96
+    (ascii "841" ∷ ascii "840" ∷ ascii "001" ∷ ascii "1Z12345675" ∷ ascii "UPSN" ∷ ascii "12345E" ∷ ascii "089" ∷ ascii "7" ∷ ascii "1/1" ∷ ascii "10"
+    ∷ ascii "N" ∷ ascii "STREET" ∷ ascii "CITY" ∷ ascii "UT" ∷ [])
+
+abbrev rest : Envelope
+rest = wholeRest 2 (ascii "UNA:+.? '")
+
+-- a tag alone, and a segment with an empty element and sub-elements
+abbrev twoSegments : List Segment
+twoSegments = ((ascii "ISA" ∷ []) ∷ []) ∷ ((ascii "N1" ∷ []) ∷ ([] ∷ []) ∷ (ascii "A" ∷ [] ∷ ascii "B" ∷ []) ∷ []) ∷ []
+
+abbrev segments03 : Envelope
+segments03 = segments 3 (ascii "004010") twoSegments
+
+-- 04 has the tag that 03 hasn't
+abbrev segments04 : Envelope
+segments04 = segments 4 (ascii "D96A01") (((ascii "BIN" ∷ []) ∷ (ascii "1" ∷ []) ∷ []) ∷ [])
+
+abbrev elements05 : Envelope
+elements05 = elements 5 (ascii "0112345678901231" ∷ ascii "10A" ∷ [])
+
+-- 06: no digit before the capital, and three
+abbrev elements06 : Envelope
+elements06 = elements 6 (ascii "Q3" ∷ ascii "123P7" ∷ [])
+
+abbrev someText : Envelope
+someText = text 7 (ascii "FREE TEXT")
+
+abbrev noText : Envelope
+noText = text 7 []
+
+-- 09: a payload of control bytes, its count with leading zeros; and none
+abbrev payload : Envelope
+payload = counted 9 (ascii "JPEG") (ascii "ZIP") (ascii "003") (RS ∷ EOT ∷ GS ∷ [])
+
+abbrev noPayload : Envelope
+noPayload = counted 9 (ascii "A") [] (ascii "0") []
+
+-- alone; and in every place but 01 not first and 02 with others: first, between and last
+abbrev pub examples : List (List Envelope)
+examples =
+    (leastTransport ∷ [])
+    ∷ (mostTransport02 ∷ [])
+    ∷ (mostTransport96 ∷ [])
+    ∷ (rest ∷ [])
+    ∷ (segments03 ∷ [])
+    ∷ (segments04 ∷ [])
+    ∷ (elements05 ∷ [])
+    ∷ (elements06 ∷ [])
+    ∷ (someText ∷ [])
+    ∷ (noText ∷ [])
+    ∷ (payload ∷ [])
+    ∷ (noPayload ∷ [])
+    ∷ (mostTransport02 ∷ segments03 ∷ segments04 ∷ elements05 ∷ elements06 ∷ noText ∷ payload ∷ [])
+    ∷ (mostTransport96 ∷ payload ∷ someText ∷ elements06 ∷ elements05 ∷ segments04 ∷ segments03 ∷ [])
+    ∷ []
+
+-- each is within its rules
+least-transport-within : Within edition2005 leastTransport
+unfolding all-definitions
+least-transport-within = record { known = refl; plainBytes = refl; asStated = refl }
+
+most-transport-02-within : Within edition2005 mostTransport02
+unfolding all-definitions
+most-transport-02-within = record { known = refl; plainBytes = refl; asStated = refl }
+
+most-transport-96-within : Within edition2005 mostTransport96
+unfolding all-definitions
+most-transport-96-within = record { known = refl; plainBytes = refl; asStated = refl }
+
+rest-within : Within edition2005 rest
+unfolding all-definitions
+rest-within = record { permitted = restByte; known = refl; notEmpty = refl; permittedBytes = refl }
+
+segments-03-within : Within edition2005 segments03
+unfolding all-definitions
+segments-03-within = record { isTag = tag03; known = refl; sixBytes = refl; oneOrMore = refl; plainBytes = refl; allTagged = refl }
+
+segments-04-within : Within edition2005 segments04
+unfolding all-definitions
+segments-04-within = record { isTag = tag; known = refl; sixBytes = refl; oneOrMore = refl; plainBytes = refl; allTagged = refl }
+
+elements-05-within : Within edition2005 elements05
+unfolding all-definitions
+elements-05-within = record { isElement = element05; known = refl; oneOrMore = refl; plainBytes = refl; asStated = refl }
+
+elements-06-within : Within edition2005 elements06
+unfolding all-definitions
+elements-06-within = record { isElement = element06; known = refl; oneOrMore = refl; plainBytes = refl; asStated = refl }
+
+some-text-within : Within edition2005 someText
+unfolding all-definitions
+some-text-within = record { permitted = textByte; known = refl; permittedBytes = refl }
+
+no-text-within : Within edition2005 noText
+unfolding all-definitions
+no-text-within = record { permitted = textByte; known = refl; permittedBytes = refl }
+
+payload-within : Within edition2005 payload
+unfolding all-definitions
+payload-within = record { known = refl; isType = refl; isCompression = refl; isCount = refl; counts = refl }
+
+no-payload-within : Within edition2005 noPayload
+unfolding all-definitions
+no-payload-within = record { known = refl; isType = refl; isCompression = refl; isCount = refl; counts = refl }
+
+pub the-examples-are-good : Each (λ es. Good edition2005 (message es) es) examples
+unfolding all-definitions
+the-examples-are-good =
+    good _ _ (least-transport-within and tt) refl refl refl tt tt refl
+    and good _ _ (most-transport-02-within and tt) refl refl refl tt tt refl
+    and good _ _ (most-transport-96-within and tt) refl refl refl tt tt refl
+    and good _ _ (rest-within and tt) refl refl refl tt tt refl
+    and good _ _ (segments-03-within and tt) refl refl refl tt tt refl
+    and good _ _ (segments-04-within and tt) refl refl refl tt tt refl
+    and good _ _ (elements-05-within and tt) refl refl refl tt tt refl
+    and good _ _ (elements-06-within and tt) refl refl refl tt tt refl
+    and good _ _ (some-text-within and tt) refl refl refl tt tt refl
+    and good _ _ (no-text-within and tt) refl refl refl tt tt refl
+    and good _ _ (payload-within and tt) refl refl refl tt tt refl
+    and good _ _ (no-payload-within and tt) refl refl refl tt tt refl
+    and good _ _ (most-transport-02-within and segments-03-within and segments-04-within and elements-05-within and elements-06-within and no-text-within and payload-within and tt) refl refl refl tt tt refl
+    and good _ _ (most-transport-96-within and payload-within and some-text-within and elements-06-within and elements-05-within and segments-04-within and segments-03-within and tt) refl refl refl tt tt refl
+    and tt
