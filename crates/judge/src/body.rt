@@ -9,7 +9,7 @@ ghost use lib.ListN.{length};
 ghost use Rattle.judge.specs.Bodies.{bodyFound};
 
 // The body of a kind from an offset on, behind rows that the header has.
-pub fn judge_body(m: &[u8], at: usize, k: Kind, before: usize) -> Found
+pub(crate) fn judge_body(m: &[u8], at: usize, k: Kind, before: usize) -> Found
     requires { ⌜ (before ≤ 2) × (at ≤ length (now m)) ⌝ }
     ensures { λ r. ⌜ r ≡ bodyFound k before (now (m .entry)) at ⌝ }
 {

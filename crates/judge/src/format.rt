@@ -14,7 +14,7 @@ ghost use lib.ListN.{length};
 ghost use Rattle.judge.specs.Formats.{transportFound, restFound, segmentsFound, elementsFound, payloadFound, countFound, compressionFound, countedFound};
 
 // 01: GS, `02` or `96`, fields.
-pub fn judge_transport(m: &[u8], at: usize) -> Found
+pub(crate) fn judge_transport(m: &[u8], at: usize) -> Found
     requires { ⌜ at ≤ length (now m) ⌝ }
     ensures { λ r. ⌜ r ≡ transportFound (now (m .entry)) at ⌝ }
 {
@@ -28,7 +28,7 @@ pub fn judge_transport(m: &[u8], at: usize) -> Found
 }
 
 // 02: all the rest, at least one byte.
-pub fn judge_rest(m: &[u8], at: usize) -> Found
+pub(crate) fn judge_rest(m: &[u8], at: usize) -> Found
     requires { ⌜ at ≤ length (now m) ⌝ }
     ensures { λ r. ⌜ r ≡ restFound (now (m .entry)) at ⌝ }
 {
@@ -42,7 +42,7 @@ pub fn judge_rest(m: &[u8], at: usize) -> Found
 }
 
 // 03, 04: six digits or capitals, FS GS US, segments.
-pub fn judge_segments(m: &[u8], at: usize, k: Kind) -> Found
+pub(crate) fn judge_segments(m: &[u8], at: usize, k: Kind) -> Found
     requires { ⌜ at ≤ length (now m) ⌝ }
     ensures { λ r. ⌜ r ≡ segmentsFound k (now (m .entry)) at ⌝ }
 {
@@ -60,7 +60,7 @@ pub fn judge_segments(m: &[u8], at: usize, k: Kind) -> Found
 }
 
 // 05, 06: GS, elements.
-pub fn judge_elements(m: &[u8], at: usize, k: Kind) -> Found
+pub(crate) fn judge_elements(m: &[u8], at: usize, k: Kind) -> Found
     requires { ⌜ at ≤ length (now m) ⌝ }
     ensures { λ r. ⌜ r ≡ elementsFound k (now (m .entry)) at ⌝ }
 {
@@ -111,7 +111,7 @@ fn judge_compression(m: &[u8], at: usize) -> Found
 }
 
 // 09: GS, the type and its GS, then the compression.
-pub fn judge_counted(m: &[u8], at: usize) -> Found
+pub(crate) fn judge_counted(m: &[u8], at: usize) -> Found
     requires { ⌜ at ≤ length (now m) ⌝ }
     ensures { λ r. ⌜ r ≡ countedFound (now (m .entry)) at ⌝ }
 {

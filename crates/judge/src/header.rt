@@ -23,7 +23,7 @@ fn decimal(b: u8) -> usize
 }
 
 // The number of the indicator at an offset, or 100 where there is none.
-pub fn indicator(m: &[u8], at: usize) -> usize
+pub(crate) fn indicator(m: &[u8], at: usize) -> usize
     ensures { λ r. ⌜ r ≡ indicatorOf (drop at (now (m .entry))) ⌝ }
 {
     if m.len() < 2 {
@@ -44,7 +44,7 @@ pub fn indicator(m: &[u8], at: usize) -> usize
 }
 
 // How many bytes from an offset on agree with a text, from its first on.
-pub fn agree(m: &[u8], at: usize, text: &[u8]) -> usize
+pub(crate) fn agree(m: &[u8], at: usize, text: &[u8]) -> usize
     requires { ⌜ at ≤ length (now m) ⌝ }
     ensures { λ r. ⌜ r ≡ agreement (now (text .entry)) (drop at (now (m .entry))) ⌝ }
 {
@@ -62,7 +62,7 @@ pub fn agree(m: &[u8], at: usize, text: &[u8]) -> usize
 }
 
 // Where a header value of 09 ends that begins at an offset: at the next GS, if its length and bytes are as they should; else the length.
-pub fn value_end(m: &[u8], at: usize, least: usize, most: usize, k: Class) -> usize
+pub(crate) fn value_end(m: &[u8], at: usize, least: usize, most: usize, k: Class) -> usize
     requires { ⌜ at ≤ length (now m) ⌝ }
     ensures { λ r. ⌜ r ≡ valueEnd least most (classOf k) (now (m .entry)) at ⌝ }
 {
@@ -81,7 +81,7 @@ pub fn value_end(m: &[u8], at: usize, least: usize, most: usize, k: Class) -> us
 }
 
 // The number that at most fifteen digits make.
-pub fn digits_value(s: &[u8]) -> usize
+pub(crate) fn digits_value(s: &[u8]) -> usize
     requires { ⌜ length (now s) ≤ 15 ⌝ }
     ensures { λ r. ⌜ r ≡ value (now (s .entry)) ⌝ }
 {

@@ -65,7 +65,7 @@ fn turn(m: &[u8], s: State) -> Turn
 }
 
 // All envelopes from behind the header on.
-pub fn walk_envelopes(m: &[u8]) -> Reading
+pub(crate) fn walk_envelopes(m: &[u8]) -> Reading
     requires { ⌜ 4 ≤ length (now m) ⌝ }
     ensures { λ r. ⌜ r ≡ tallied 0 0 (walked edition2005 (now (m .entry)) true (drop 4 (now (m .entry)))) ⌝ }
 {

@@ -20,7 +20,7 @@ struct Run {
 }
 
 // Puts the message that a text writes into a buffer, as far as it has room, and answers the message's length.
-pub fn expand(text: &[u8], message: &mut [u8]) -> usize
+pub(crate) fn expand(text: &[u8], message: &mut [u8]) -> usize
     ensures { λ r. ⌜ Counts r (now (message .exit)) ⌝ }
 {
     let mut length = 0;
@@ -143,7 +143,7 @@ fn put_run(run: Run, message: &mut [u8], from: usize) -> usize {
     at
 }
 
-pub fn within(n: usize, message: &[u8]) -> usize
+pub(crate) fn within(n: usize, message: &[u8]) -> usize
     ensures { λ r. ⌜ Counts r (now (message .entry)) ⌝ }
 {
     if n < message.len() { n } else { message.len() }

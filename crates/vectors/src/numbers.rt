@@ -12,7 +12,7 @@ const LARGEST_BEFORE_DIGIT: usize = 1844674407370955160;
 const LARGEST_IN_ROW: u32 = 4294967295;
 
 // The number that a text's digits write; one that is too large is taken as the largest. What isn't a digit is passed over.
-pub fn number(text: &[u8]) -> usize {
+pub(crate) fn number(text: &[u8]) -> usize {
     let mut n = 0;
     let mut i = 0;
     while i < text.len() {
@@ -45,7 +45,7 @@ fn narrow(n: usize) -> u32 {
 }
 
 // Puts the numbers of rows into a table, as far as it has room, and answers how many they are.
-pub fn put_rows(text: &[u8], table: &mut [u32]) -> usize
+pub(crate) fn put_rows(text: &[u8], table: &mut [u32]) -> usize
     ensures { λ r. ⌜ Counts r (now (table .exit)) ⌝ }
 {
     let count = put_each(text, table);

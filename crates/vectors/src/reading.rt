@@ -9,7 +9,7 @@ use label::Reading;
 const MANY: usize = 100;
 
 // Prints the reading of a message.
-pub fn run_message(text: &[u8]) {
+pub(crate) fn run_message(text: &[u8]) {
     let mut message = [0u8; 4200];
     let length = notation::expand(text, &mut message);
     let mut table = [0u32; 4096];
@@ -34,7 +34,7 @@ fn print(reading: Reading, table: &[u32]) {
 }
 
 // Prints the part of a message that a row names.
-pub fn run_part(text: &[u8]) {
+pub(crate) fn run_part(text: &[u8]) {
     let row = numbers::number(split::word(text));
     let mut message = [0u8; 4200];
     let length = notation::expand(split::rest(text), &mut message);

@@ -7,7 +7,7 @@ use libc::STDOUT_FILENO;
 const LONG: usize = 10;
 
 // Prints how many bytes there are, the bytes behind a space if there are any, and a line end.
-pub fn print_part(bytes: &[u8]) {
+pub(crate) fn print_part(bytes: &[u8]) {
     io::print_decimal(STDOUT_FILENO, bytes.len() as u64);
     if bytes.len() > 0 {
         io::write_all(STDOUT_FILENO, b" ");
@@ -16,7 +16,7 @@ pub fn print_part(bytes: &[u8]) {
 }
 
 // Prints bytes and a line end.
-pub fn print_bytes(bytes: &[u8]) {
+pub(crate) fn print_bytes(bytes: &[u8]) {
     let mut at = 0;
     while at < bytes.len() {
         let end = run_end(bytes, at);

@@ -4,7 +4,7 @@ ghost use lib.ListN.{length};
 ghost use Rattle.io.specs.Counts.{Counts};
 
 // The index of the first c at or after an index; the length where there is none.
-pub fn first(text: &[u8], from: usize, c: u8) -> usize
+pub(crate) fn first(text: &[u8], from: usize, c: u8) -> usize
     requires { ⌜ from ≤ length (now text) ⌝ }
     ensures { λ r. ⌜ from ≤ r ⌝ }
     ensures { λ r. ⌜ Counts r (now (text .entry)) ⌝ }
@@ -13,13 +13,13 @@ pub fn first(text: &[u8], from: usize, c: u8) -> usize
 }
 
 // What stands before a text's first space; all of it where there is none.
-pub fn word(text: &[u8]) -> &[u8] {
+pub(crate) fn word(text: &[u8]) -> &[u8] {
     let space = first(text, 0, b' ');
     &text[..space]
 }
 
 // What stands behind a text's first space; the empty end where there is none.
-pub fn rest(text: &[u8]) -> &[u8] {
+pub(crate) fn rest(text: &[u8]) -> &[u8] {
     let space = first(text, 0, b' ');
     if space < text.len() {
         return &text[space + 1..];

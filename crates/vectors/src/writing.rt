@@ -5,7 +5,7 @@ use crate::shown;
 use crate::split;
 
 // Prints what the writer answers for an output's length, rows and data, and the whole output afterwards.
-pub fn run_rows(text: &[u8]) {
+pub(crate) fn run_rows(text: &[u8]) {
     let length = numbers::number(split::word(text));
     let more = split::rest(text);
     let mut table = [0u32; 4400];
