@@ -5,7 +5,7 @@ ghost use lib.ListN.{drop};
 ghost use Rattle.label.specs.Elements.{element05, capitalAndMore, element06};
 
 // 05: at least three bytes, the first two digits.
-pub fn element_05(s: &[u8]) -> bool
+pub(crate) fn element_05(s: &[u8]) -> bool
     ensures { λ r. ⌜ r ≡ element05 (now (s .entry)) ⌝ }
 {
     if s.len() < 3 {
@@ -26,7 +26,7 @@ fn capital_and_more(s: &[u8], at: usize) -> bool
 }
 
 // 06: zero to three digits, one capital, then at least one byte.
-pub fn element_06(s: &[u8]) -> bool
+pub(crate) fn element_06(s: &[u8]) -> bool
     ensures { λ r. ⌜ r ≡ element06 (now (s .entry)) ⌝ }
 {
     let mut i = 0;

@@ -53,7 +53,7 @@ fn field_bytes(i: usize, s: &[u8]) -> bool
 }
 
 // A field has its length and its bytes; a later one may be empty.
-pub fn field_holds(row: usize, i: usize, s: &[u8]) -> bool
+pub(crate) fn field_holds(row: usize, i: usize, s: &[u8]) -> bool
     ensures { λ r. ⌜ r ≡ fieldIn row i (now (s .entry)) ⌝ }
 {
     let limit = label::limits_of(row, i);

@@ -146,17 +146,24 @@ fn segment_rows(body: &[u8]) -> usize
     fs + gs + us
 }
 
+// How many rows a body of fields or elements has: one, and one behind each GS.
+fn piece_rows(body: &[u8]) -> usize
+    ensures { λ r. ⌜ r ≡ rowsOfBody Kind.Elements06 (now (body .entry)) ⌝ }
+{
+    leaves::tally(body, GS) + 1
+}
+
 // How many rows a body has.
 pub fn rows_in(k: Kind, body: &[u8]) -> usize
     ensures { λ r. ⌜ r ≡ rowsOfBody k (now (body .entry)) ⌝ }
 {
     match k {
-        Kind::Fields02 => leaves::tally(body, GS) + 1,
-        Kind::Fields96 => leaves::tally(body, GS) + 1,
+        Kind::Fields02 => piece_rows(body),
+        Kind::Fields96 => piece_rows(body),
         Kind::Segments03 => segment_rows(body),
         Kind::Segments04 => segment_rows(body),
-        Kind::Elements05 => leaves::tally(body, GS) + 1,
-        Kind::Elements06 => leaves::tally(body, GS) + 1,
+        Kind::Elements05 => piece_rows(body),
+        Kind::Elements06 => piece_rows(body),
         Kind::Text => 1,
     }
 }

@@ -7,7 +7,7 @@ ghost use Rattle.leaves.specs.Seek.{seek};
 ghost use Rattle.label.specs.Segments.{tag, tag03};
 
 // Two or three capitals or digits, the first a capital.
-pub fn tag_04(s: &[u8]) -> bool
+pub(crate) fn tag_04(s: &[u8]) -> bool
     ensures { λ r. ⌜ r ≡ tag (now (s .entry)) ⌝ }
 {
     if s.len() < 2 {
@@ -28,7 +28,7 @@ fn is_binary(s: &[u8]) -> bool
 }
 
 // 03: a tag, and not `BIN`.
-pub fn tag_03(s: &[u8]) -> bool
+pub(crate) fn tag_03(s: &[u8]) -> bool
     ensures { λ r. ⌜ r ≡ tag03 (now (s .entry)) ⌝ }
 {
     tag_04(s) & !is_binary(s)
@@ -43,13 +43,13 @@ fn first_element(s: &[u8]) -> &[u8]
 }
 
 // A segment is judged by its tag: a tag has no sub-elements, since US is neither capital nor digit.
-pub fn segment_03(s: &[u8]) -> bool
+pub(crate) fn segment_03(s: &[u8]) -> bool
     ensures { λ r. ⌜ r ≡ tag03 (take (seek GS (now (s .entry))) (now (s .entry))) ⌝ }
 {
     tag_03(first_element(s))
 }
 
-pub fn segment_04(s: &[u8]) -> bool
+pub(crate) fn segment_04(s: &[u8]) -> bool
     ensures { λ r. ⌜ r ≡ tag (take (seek GS (now (s .entry))) (now (s .entry))) ⌝ }
 {
     tag_04(first_element(s))

@@ -1,9 +1,6 @@
 -- `rows_in` is `rowsOfBody`, an arm for each kind.
 use mathlib.Core.Path.{sym, ap, _∙_}
-use Prim.Native.Nat.{_+_}
-use Rattle.label.specs.Bytes.{GS}
 use Rattle.bodies.specs.Kinds.{rowsOfBody}
-use Rattle.bodies.proofs.RuleLaws.{tally-inside}
 use borrow.Author.Needs.{needs}
 use Rattle.bodies.proofs.rows_in.Statement.{statement}
 use Rattle.bodies.proofs.rows_in.Tie as tie
@@ -11,26 +8,14 @@ use Rattle.bodies.proofs.rows_in.Tie as tie
 enum-told : tie.Need-enum-told
 enum-told c = search needs
 
-tally-requires : tie.Need-tally-requires
-tally-requires c κs = search needs
-
-add-result : tie.Need-add-result
-add-result c =
-    let is = c .tally .ensures in
-    let inside = tally-inside GS (c .before .before .before .before .args .body .now) in
-    search needs
+piece-rows-requires : tie.Need-piece-rows-requires
+piece-rows-requires c κs = search needs
 
 enum-told-2 : tie.Need-enum-told-2
 enum-told-2 c = search needs
 
-tally-requires-2 : tie.Need-tally-requires-2
-tally-requires-2 c κs = search needs
-
-add-result-2 : tie.Need-add-result-2
-add-result-2 c =
-    let is = c .tally2 .ensures in
-    let inside = tally-inside GS (c .before .before .before .before .args .body .now) in
-    search needs
+piece-rows-requires-2 : tie.Need-piece-rows-requires-2
+piece-rows-requires-2 c κs = search needs
 
 enum-told-3 : tie.Need-enum-told-3
 enum-told-3 c = search needs
@@ -47,35 +32,23 @@ segment-rows-requires-2 c κs = search needs
 enum-told-5 : tie.Need-enum-told-5
 enum-told-5 c = search needs
 
-tally-requires-3 : tie.Need-tally-requires-3
-tally-requires-3 c κs = search needs
-
-add-result-3 : tie.Need-add-result-3
-add-result-3 c =
-    let is = c .tally3 .ensures in
-    let inside = tally-inside GS (c .before .before .before .before .args .body .now) in
-    search needs
+piece-rows-requires-3 : tie.Need-piece-rows-requires-3
+piece-rows-requires-3 c κs = search needs
 
 enum-told-6 : tie.Need-enum-told-6
 enum-told-6 c = search needs
 
-tally-requires-4 : tie.Need-tally-requires-4
-tally-requires-4 c κs = search needs
-
-add-result-4 : tie.Need-add-result-4
-add-result-4 c =
-    let is = c .tally4 .ensures in
-    let inside = tally-inside GS (c .before .before .before .before .args .body .now) in
-    search needs
+piece-rows-requires-4 : tie.Need-piece-rows-requires-4
+piece-rows-requires-4 c κs = search needs
 
 enum-told-7 : tie.Need-enum-told-7
 enum-told-7 c = search needs
 
 returns : tie.Need-returns
-returns c = ap (λ n. n + 1) (c .tally .ensures) ∙ sym (ap (λ k. rowsOfBody k (c .before .before .before .before .args .body .now)) (c .before .enum-told .given .1))
+returns c = c .piece-rows .ensures ∙ sym (ap (λ k. rowsOfBody k (c .before .before .before .before .args .body .now)) (c .before .enum-told .given .1))
 
 returns-2 : tie.Need-returns-2
-returns-2 c = ap (λ n. n + 1) (c .tally2 .ensures) ∙ sym (ap (λ k. rowsOfBody k (c .before .before .before .before .args .body .now)) (c .before .enum-told2 .given .1))
+returns-2 c = c .piece-rows2 .ensures ∙ sym (ap (λ k. rowsOfBody k (c .before .before .before .before .args .body .now)) (c .before .enum-told2 .given .1))
 
 returns-3 : tie.Need-returns-3
 returns-3 c = c .segment-rows .ensures ∙ sym (ap (λ k. rowsOfBody k (c .before .before .before .before .args .body .now)) (c .before .enum-told3 .given .1))
@@ -84,10 +57,10 @@ returns-4 : tie.Need-returns-4
 returns-4 c = c .segment-rows2 .ensures ∙ sym (ap (λ k. rowsOfBody k (c .before .before .before .before .args .body .now)) (c .before .enum-told4 .given .1))
 
 returns-5 : tie.Need-returns-5
-returns-5 c = ap (λ n. n + 1) (c .tally3 .ensures) ∙ sym (ap (λ k. rowsOfBody k (c .before .before .before .before .args .body .now)) (c .before .enum-told5 .given .1))
+returns-5 c = c .piece-rows3 .ensures ∙ sym (ap (λ k. rowsOfBody k (c .before .before .before .before .args .body .now)) (c .before .enum-told5 .given .1))
 
 returns-6 : tie.Need-returns-6
-returns-6 c = ap (λ n. n + 1) (c .tally4 .ensures) ∙ sym (ap (λ k. rowsOfBody k (c .before .before .before .before .args .body .now)) (c .before .enum-told6 .given .1))
+returns-6 c = c .piece-rows4 .ensures ∙ sym (ap (λ k. rowsOfBody k (c .before .before .before .before .args .body .now)) (c .before .enum-told6 .given .1))
 
 returns-7 : tie.Need-returns-7
 returns-7 c = sym (ap (λ k. rowsOfBody k (c .before .before .before .args .body .now)) (c .enum-told7 .given .1))
@@ -97,21 +70,17 @@ rows-in-spec =
     tie.close
     (tie.spec
     enum-told
-    tally-requires
-    add-result
+    piece-rows-requires
     enum-told-2
-    tally-requires-2
-    add-result-2
+    piece-rows-requires-2
     enum-told-3
     segment-rows-requires
     enum-told-4
     segment-rows-requires-2
     enum-told-5
-    tally-requires-3
-    add-result-3
+    piece-rows-requires-3
     enum-told-6
-    tally-requires-4
-    add-result-4
+    piece-rows-requires-4
     enum-told-7
     returns
     returns-2
