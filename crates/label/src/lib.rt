@@ -2,6 +2,8 @@
 // What a message is, how it is read and what is answered stands in specs/.
 ghost use mathlib.Core.Path.{_≡_};
 ghost use Rattle.label.specs.Limits.{limitOf};
+ghost use Rattle.label.specs.Answer.{number};
+ghost use Rattle.label.specs.Writing.{writeNumber};
 
 // The most bytes and the most rows in a message (01, Rows).
 pub const LONGEST: usize = 4096;
@@ -55,6 +57,39 @@ pub enum WriteReason {
 pub enum Writing {
     Written(usize),
     Declined(WriteReason),
+}
+
+// The paper's number of a reason.
+pub fn number_of(reason: Reason) -> u32
+    ensures { λ r. ⌜ r ≡ number reason ⌝ }
+{
+    match reason {
+        Reason::TooLong => 1,
+        Reason::NoMessageHeader => 2,
+        Reason::NoIndicator => 3,
+        Reason::NoTrailer => 4,
+        Reason::BytesAfterTrailer => 5,
+        Reason::UnknownFormat => 6,
+        Reason::NotFirst => 7,
+        Reason::BadFormatHeader => 8,
+        Reason::PayloadDoesNotFit => 9,
+        Reason::ByteNotPermitted => 10,
+        Reason::BodyBreaksRules => 11,
+        Reason::NoRecordSeparator => 12,
+        Reason::TooManyRows => 13,
+        Reason::NoRoom => 14,
+    }
+}
+
+// The paper's number of a reason not to write.
+pub fn write_number_of(reason: WriteReason) -> u32
+    ensures { λ r. ⌜ r ≡ writeNumber reason ⌝ }
+{
+    match reason {
+        WriteReason::BadRows => 20,
+        WriteReason::NoSuchMessage => 21,
+        WriteReason::NoOutputRoom => 22,
+    }
 }
 
 // The least and the greatest length of a transport field.

@@ -1,13 +1,9 @@
-// A reading in the paper's numbers, and printed as document 01 has it under 'Cartons to try'; and what the writer answers.
+// A reading printed as document 01 has it under 'Cartons to try', and what the writer answers.
 ghost use mathlib.Core.Path.{_≡_};
 ghost use Prim.Native.Nat.{_+_, min};
 ghost use lib.ListN.{length, set};
 ghost use Rattle.io.specs.Counts.{Counts};
-ghost use Rattle.label.specs.Answer.{number};
-ghost use Rattle.label.specs.Writing.{writeNumber};
 use label::Reading;
-use label::Reason;
-use label::WriteReason;
 use label::Writing;
 use libc::STDOUT_FILENO;
 
@@ -17,44 +13,11 @@ const LINE: usize = 84;
 // How many numbers a row has in the table.
 const WIDTH: usize = 4;
 
-// The paper's number of a reason.
-pub fn number_of(reason: Reason) -> u32
-    ensures { λ r. ⌜ r ≡ number reason ⌝ }
-{
-    match reason {
-        Reason::TooLong => 1,
-        Reason::NoMessageHeader => 2,
-        Reason::NoIndicator => 3,
-        Reason::NoTrailer => 4,
-        Reason::BytesAfterTrailer => 5,
-        Reason::UnknownFormat => 6,
-        Reason::NotFirst => 7,
-        Reason::BadFormatHeader => 8,
-        Reason::PayloadDoesNotFit => 9,
-        Reason::ByteNotPermitted => 10,
-        Reason::BodyBreaksRules => 11,
-        Reason::NoRecordSeparator => 12,
-        Reason::TooManyRows => 13,
-        Reason::NoRoom => 14,
-    }
-}
-
-// The paper's number of a reason not to write.
-pub fn write_number_of(reason: WriteReason) -> u32
-    ensures { λ r. ⌜ r ≡ writeNumber reason ⌝ }
-{
-    match reason {
-        WriteReason::BadRows => 20,
-        WriteReason::NoSuchMessage => 21,
-        WriteReason::NoOutputRoom => 22,
-    }
-}
-
 // Prints the line of what the writer answers: 0 and the byte count, or the reason's number.
 pub fn print_writing(writing: Writing) {
     match writing {
         Writing::Written(count) => print_two(0, count as u64),
-        Writing::Declined(reason) => print_one(write_number_of(reason) as u64),
+        Writing::Declined(reason) => print_one(label::write_number_of(reason) as u64),
     }
 }
 
@@ -73,7 +36,7 @@ pub fn print_answer(reading: Reading) {
         Reading::Accepted(counts) => print_three(0, counts.envelopes as u64, counts.rows as u64),
         Reading::Refused(refusal) => {
             let reason = refusal.reason;
-            print_two(number_of(reason) as u64, refusal.place as u64)
+            print_two(label::number_of(reason) as u64, refusal.place as u64)
         }
     }
 }
