@@ -4,3 +4,4 @@ pub mod SeekLaws
 pub mod FieldLaws
 pub mod PieceLaws
 pub mod RuleLaws
+pub mod OneOutcome

@@ -7,3 +7,4 @@ pub mod FormatLaws
 pub mod RowBounds
 pub mod WalkLaws
 pub mod JudgeLaws
+pub mod OneOutcome

@@ -24,4 +24,6 @@ pub mod Rendering
 pub mod RowItems
 pub mod Composing
 pub mod Promises
+pub mod Examples
 pub mod WriterPromises
+pub mod OneOutcome

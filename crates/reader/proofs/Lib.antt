@@ -6,3 +6,4 @@ pub mod Promises
 pub mod Filling
 pub mod ReadLaws
 pub mod Standing
+pub mod OneOutcome

@@ -4,3 +4,4 @@ pub mod LayingLaws
 pub mod Comparing
 pub mod Composed
 pub mod RoundLaws
+pub mod OneOutcome

@@ -1,0 +1,16 @@
+-- Two outcomes that a public function's contract allows for the same inputs are equal. `Learnt` is the contract as the checker has it and a caller learns it:
+-- lifetimes, arguments, answer, and what lent memory holds afterwards.
+use mathlib.Core.Path.{_≡_, sym, _∙_}
+use contract.Lifetimes.{Lfts}
+use Rattle.label.proofs.limits_of.Reads as limits-of
+use Rattle.label.proofs.number_of.Reads as number-of
+use Rattle.label.proofs.write_number_of.Reads as write-number-of
+
+pub limits-of-once : (κs : Lfts 0) (a : _) (r r′ : _) (s s′ : _) → limits-of.Learnt κs a r s → limits-of.Learnt κs a r′ s′ → r ≡ r′
+limits-of-once κs a r r′ s s′ one two = one ∙ sym two
+
+pub number-of-once : (κs : Lfts 0) (a : _) (r r′ : _) (s s′ : _) → number-of.Learnt κs a r s → number-of.Learnt κs a r′ s′ → r ≡ r′
+number-of-once κs a r r′ s s′ one two = one ∙ sym two
+
+pub write-number-of-once : (κs : Lfts 0) (a : _) (r r′ : _) (s s′ : _) → write-number-of.Learnt κs a r s → write-number-of.Learnt κs a r′ s′ → r ≡ r′
+write-number-of-once κs a r r′ s s′ one two = one ∙ sym two
