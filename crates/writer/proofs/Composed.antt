@@ -62,10 +62,15 @@ module _ (held : Bytes) (ns : List ℕ) where
           ap (λ t. cond t (some laid) none)
           (not-as-many [] (rowsIn ns) (λ same. omega (arith, rows-counted ns, stands-so held ns stand .whole)))
 
-  pub composed-compared : rowsStand held ns ≡ true → 0 < length ns → (m : Bytes) → m ≡ laid → (t : Bool) → t ≡ alike (rowsRead (reading edition2005 m)) (rowsIn ns)
-      → composed edition2005 items ≡ cond t (some laid) none
-  composed-compared stand more m is t says =
-      composed-by-rows stand more ∙ ap (λ t. cond t (some laid) none) (sym (says ∙ ap (λ m. alike (rowsRead (reading edition2005 m)) (rowsIn ns)) is))
+  laid-there : (r : ℕ) (out : Bytes) → Laying laid [] r out → r ≤ length out → take r out ≡ laid
+  laid-there r out laying inside = sym (append-nil (take r out)) ∙ laying .fits inside
+
+  -- so by the comparison with what a buffer's first bytes are read as, where those are what is laid out
+  composed-compared : rowsStand held ns ≡ true → 0 < length ns → (r : ℕ) (out : Bytes) → Laying laid [] r out → r ≤ length out
+      → (t : Bool) → t ≡ alike (rowsRead (reading edition2005 (take r out))) (rowsIn ns) → composed edition2005 items ≡ cond t (some laid) none
+  composed-compared stand more r out laying inside t says =
+      composed-by-rows stand more
+      ∙ ap (λ t. cond t (some laid) none) (sym (says ∙ ap (λ m. alike (rowsRead (reading edition2005 m)) (rowsIn ns)) (laid-there r out laying inside)))
 
   -- what is too long is not composed
   pub composed-not-long : longest < length laid → composed edition2005 items ≡ none
@@ -96,13 +101,16 @@ module _ (held : Bytes) (ns : List ℕ) where
   pub composes-none : (r : ℕ) (out : Bytes) → composed edition2005 items ≡ none → r ≡ 0 → Composes (composed edition2005 items) r out
   composes-none r out is zero = subst (λ (c : Option Bytes). Composes c r out) (sym is) zero
 
-  pub laid-there : (r : ℕ) (out : Bytes) → Laying laid [] r out → r ≤ length out → take r out ≡ laid
-  laid-there r out laying inside = sym (append-nil (take r out)) ∙ laying .fits inside
-
-  pub composes-laid : (r : ℕ) (out : Bytes) → composed edition2005 items ≡ some laid → Laying laid [] r out → r ≤ length out → Composes (composed edition2005 items) r out
-  composes-laid r out is laying inside =
-      let there = laid-there r out laying inside in
-      subst (λ (c : Option Bytes). Composes c r out) (sym is) (omega (arith, ap length there, length-take r out), there)
+  -- by the comparison: what is laid out, or nothing
+  pub composes-compared : rowsStand held ns ≡ true → 0 < length ns → (r : ℕ) (out : Bytes) → Laying laid [] r out → r ≤ length out
+      → (t : Bool) → t ≡ alike (rowsRead (reading edition2005 (take r out))) (rowsIn ns) → (u : Bool) → t ≡ u → Composes (composed edition2005 items) (cond u r 0) out
+  composes-compared stand more r out laying inside t says u same = by u (composed-compared stand more r out laying inside u (sym same ∙ says))
+    where
+      by : (u : Bool) → composed edition2005 items ≡ cond u (some laid) none → Composes (composed edition2005 items) (cond u r 0) out
+      by true is =
+          let there = laid-there r out laying inside in
+          subst (λ (c : Option Bytes). Composes c r out) (sym is) (omega (arith, ap length there, length-take r out), there)
+      by false is = composes-none 0 out is refl
 
   -- what is composed lies in the buffer
   pub composes-inside : (r : ℕ) (out : Bytes) → Composes (composed edition2005 items) r out → r ≤ length out

@@ -1,16 +1,11 @@
 -- `compose` lays out, reads back and compares.
-use Prim.Native.Nat.{_<_}
-use mathlib.Core.Path.{_≡_, refl, sym, ap, _∙_}
-use mathlib.Core.Bool.{true, false, cond}
-use mathlib.Core.Option.{none, some}
+use mathlib.Core.Path.{refl}
+use mathlib.Core.Bool.{true, false}
 use native.Mathlib.Omega.{arith}
 use borrow.Author.Needs.{needs}
-use lib.ListN.{length, take, length-take}
-use Rattle.label.specs.Formats.{edition2005}
-use Rattle.label.specs.Rendered.{rendered}
-use Rattle.label.specs.Writing.{itemsIn}
+use lib.ListN.{length-take}
 use Rattle.writer.proofs.GivenLaws.{stands-so}
-use Rattle.writer.proofs.Composed.{composed-compared, composed-not-long, composed-not-empty, composes-none, laid-there, composes-laid}
+use Rattle.writer.proofs.Composed.{composed-not-long, composed-not-empty, composes-none, composes-compared}
 use Rattle.writer.proofs.compose.Statement.{statement}
 use Rattle.writer.proofs.compose.Tie as tie
 
@@ -52,14 +47,10 @@ same-length-2 c = search needs
 returns-3 : tie.Need-returns-3
 returns-3 c =
     let args = c .before .before .before .before .before .before .before .before .before .before .before .before .args in
-    let held = args .held .now in
-    let ns = args .rows .now in
     let laid = c .before .before .before .before .before .before .lay-out in
-    let inside = c .before .before .before .if2 .left in
-    let there = laid-there held ns (laid .result) (laid .last .1 .1 .0) (laid .ensures) inside in
-    let more : 0 < length ns = omega (arith, c .before .before .before .before .before .before .before .before .if1 .left) in
-    let is = composed-compared held ns (c .before .before .before .before .before .before .before .before .before .before .before .before .pre .stand) more (take (laid .result) (laid .last .1 .1 .0)) there (c .before .same-rows .result) (c .before .same-rows .ensures) in
-    composes-laid held ns (laid .result) (laid .last .1 .1 .0) (is ∙ ap (λ t. cond t (some (rendered edition2005 (itemsIn held ns))) none) (c .if3 .taken)) (laid .ensures) inside
+    let same = c .before .same-rows in
+    composes-compared (args .held .now) (args .rows .now) (c .before .before .before .before .before .before .before .before .before .before .before .before .pre .stand) (omega (arith, c .before .before .before .before .before .before .before .before .if1 .left)) (laid .result) (laid .last .1 .1 .0) (laid .ensures) (c .before .before .before .if2 .left)
+    (same .result) (same .ensures) true (c .if3 .taken)
 
 same-length-3 : tie.Need-same-length-3
 same-length-3 c = search needs
@@ -67,14 +58,10 @@ same-length-3 c = search needs
 returns-4 : tie.Need-returns-4
 returns-4 c =
     let args = c .before .before .before .before .before .before .before .before .before .before .before .before .args in
-    let held = args .held .now in
-    let ns = args .rows .now in
     let laid = c .before .before .before .before .before .before .lay-out in
-    let inside = c .before .before .before .if2 .left in
-    let there = laid-there held ns (laid .result) (laid .last .1 .1 .0) (laid .ensures) inside in
-    let more : 0 < length ns = omega (arith, c .before .before .before .before .before .before .before .before .if1 .left) in
-    let is = composed-compared held ns (c .before .before .before .before .before .before .before .before .before .before .before .before .pre .stand) more (take (laid .result) (laid .last .1 .1 .0)) there (c .before .same-rows .result) (c .before .same-rows .ensures) in
-    composes-none held ns 0 (laid .last .1 .1 .0) (is ∙ ap (λ t. cond t (some (rendered edition2005 (itemsIn held ns))) none) (c .if3 .left)) refl
+    let same = c .before .same-rows in
+    composes-compared (args .held .now) (args .rows .now) (c .before .before .before .before .before .before .before .before .before .before .before .before .pre .stand) (omega (arith, c .before .before .before .before .before .before .before .before .if1 .left)) (laid .result) (laid .last .1 .1 .0) (laid .ensures) (c .before .before .before .if2 .left)
+    (same .result) (same .ensures) false (c .if3 .left)
 
 pub compose-spec : {M : Type 1} → statement M
 compose-spec =
