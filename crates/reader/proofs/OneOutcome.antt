@@ -7,6 +7,7 @@ use Rattle.label.proofs.Numbers.{readings-by-answer}
 use Rattle.reader.proofs.table.read.Reads as read
 use Rattle.reader.proofs.named.part.Reads as part
 use Rattle.reader.proofs.named.rows_of.Reads as rows-of
+use Rattle.reader.proofs.named.span_of.Reads as span-of
 use Rattle.reader.proofs.first.Reads as first
 use Rattle.reader.proofs.next.Reads as next
 use Rattle.reader.proofs.kind_of.Reads as kind-of
@@ -20,6 +21,9 @@ part-once κs a r r′ s s′ one two = (one .0 ∙ sym (two .0), λ i. ((one .1
 
 pub rows-of-once : (κs : Lfts 1) (a : _) (r r′ : _) (s s′ : _) → rows-of.Learnt κs a r s → rows-of.Learnt κs a r′ s′ → r ≡ r′
 rows-of-once κs a r r′ s s′ one two = one ∙ sym two
+
+pub span-of-once : (κs : Lfts 1) (a : _) (r r′ : _) (s s′ : _) → span-of.Learnt κs a r s → span-of.Learnt κs a r′ s′ → r ≡ r′
+span-of-once κs a r r′ s s′ one two = λ i. record { start = (one .from ∙ sym (two .from)) i; length = (one .spans ∙ sym (two .spans)) i }
 
 pub first-once : (κs : Lfts 1) (a : _) (r r′ : _) (s s′ : _) → first.Learnt κs a r s → first.Learnt κs a r′ s′ → r ≡ r′
 first-once κs a r r′ s s′ one two = one ∙ sym two

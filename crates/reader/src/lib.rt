@@ -6,6 +6,7 @@ mod table;
 
 pub use named::part;
 pub use named::rows_of;
+pub use named::span_of;
 pub use table::read;
 ghost use Prim.Native.Nat.{_+_, _-_};
 ghost use mathlib.Core.Path.{_≡_};

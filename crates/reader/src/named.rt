@@ -44,7 +44,7 @@ fn cursor_at(m: &[u8], row: usize) -> Cursor
 }
 
 // Where a row's part lies; the empty start where there is no such row.
-fn span_of(m: &[u8], row: usize) -> Span
+pub fn span_of(m: &[u8], row: usize) -> Span
     ensures { λ r. ⌜ Lies (now (m .entry)) row (r .start) (r .length) ⌝ }
 {
     if row < rows_of(m) {

@@ -1,0 +1,67 @@
+/* Reading and writing of ISO/IEC 15434 labels, for C and C++.
+ *
+ * Link with libzielorad.a, which `rt staticlib zielorad` makes under target/staticlib. It is for x86-64, calls no system function but
+ * memcpy and memset, keeps nothing between calls and can be called from several threads at once.
+ *
+ * In every function:
+ * - Lengths count elements of the array in front of them, not bytes. Any length is fine, and any content.
+ * - A pointer may be null where its length is 0.
+ * - Arrays given to one call must not overlap, unless none of them is written to.
+ * - Nothing is written but what the function says, and nothing is kept.
+ * - The call ends. It takes up to 25,000 bytes of stack.
+ *
+ * What each number means stands in README.md, for the people at the dock; the law is document 01. That each function does what is said
+ * here is proved: docs/PROMISES.md. */
+#ifndef ZIELORAD_H
+#define ZIELORAD_H
+
+#include <stddef.h>
+#include <stdint.h>
+
+#ifdef __cplusplus
+extern "C" {
+#endif
+
+/* What reading answers. number 0: the label is good, and has so many envelopes and rows; place is 0. Any other number, 1 to 14: the
+ * label is refused, and place is the offset in it where the fault is; envelopes and rows are 0. */
+typedef struct {
+    uint32_t number;
+    uint32_t place;
+    uint32_t envelopes;
+    uint32_t rows;
+} zielorad_reading;
+
+/* Reads a message into a table. A row is four numbers: kind, format, start, length; start and length name a stretch of the message. The
+ * table has room for table_length / 4 rows; 4,096 numbers are room for every label.
+ * Good: the table's first 4 * rows numbers are the rows, and those behind them stay as they were.
+ * Refused: the table stays as it was. 14 says that the label is good and the table has too little room. */
+zielorad_reading zielorad_read(const uint8_t *message, size_t message_length, uint32_t *table, size_t table_length);
+
+/* What writing answers. number 0: written, so many bytes. Any other number, 20 to 22: not written; count is 0. */
+typedef struct {
+    uint32_t number;
+    uint32_t count;
+} zielorad_written;
+
+/* Writes the one good label whose rows have the kinds, formats and contents of the rows given, in their order. Rows are four numbers
+ * each, as zielorad_read leaves them; start and length name stretches of the data, which may overlap and stand in any order.
+ * Written: the output's first count bytes are the label, and those behind them stay as they were. 4,096 bytes are room for every label.
+ * Not written: the output stays as it was. 20: the row numbers are no multiple of four, more than 1,024 rows, or a stretch leaves the
+ * data. 21: there is no such label. 22: the output has too little room. */
+zielorad_written zielorad_write(const uint8_t *data, size_t data_length, const uint32_t *rows, size_t rows_length, uint8_t *output, size_t output_length);
+
+/* A stretch of a message. */
+typedef struct {
+    size_t start;
+    size_t length;
+} zielorad_part;
+
+/* Where the bytes of a row lie in a message, rows counted from 0. Start 0 and length 0 for a message that is refused, and for a row that
+ * it doesn't have. No table is needed. */
+zielorad_part zielorad_part_of(const uint8_t *message, size_t message_length, size_t row);
+
+#ifdef __cplusplus
+}
+#endif
+
+#endif
