@@ -1,0 +1,2212 @@
+/* The differential test: the library's functions against the reference.
+ *
+ *     differential [SEED [CASES [FIRST]]]
+ *
+ * Every case is drawn from the seed and its own number alone, so that
+ * `differential SEED 1 NUMBER` repeats one. Answers and all lent memory are
+ * compared, with guard zones on both sides. Where the generator knows by
+ * construction what the answer is, it is demanded of the library too, so that
+ * an error that both sides share doesn't pass. The first difference ends the
+ * run with status 1.
+ *
+ * With -DEMPTY_AS_NULL every second case lends the library a null pointer where
+ * a length is 0; the reference always allows that. */
+#include "zielorad.h"
+
+#include "../reference/reference.h"
+
+#include <stdbool.h>
+#include <stdio.h>
+#include <stdlib.h>
+#include <string.h>
+
+enum { EOT = 0x04, FS = 0x1C, GS = 0x1D, RS = 0x1E, US = 0x1F };
+enum { MOST_BYTES = 4096, MOST_ROWS = 1024 };
+
+/* ---- Chance: splitmix64 ---- */
+
+static uint64_t chance_state;
+
+static uint64_t chance(void)
+{
+    uint64_t z = (chance_state += 0x9E3779B97F4A7C15u);
+    z = (z ^ (z >> 30)) * 0xBF58476D1CE4E5B9u;
+    z = (z ^ (z >> 27)) * 0x94D049BB133111EBu;
+    return z ^ (z >> 31);
+}
+
+static size_t below(size_t bound)
+{
+    return (size_t)(chance() % bound);
+}
+
+static size_t between(size_t least, size_t greatest)
+{
+    return least + below(greatest - least + 1);
+}
+
+static bool one_in(size_t n)
+{
+    return below(n) == 0;
+}
+
+static uint8_t one_of(const char *bytes)
+{
+    return (uint8_t)bytes[below(strlen(bytes))];
+}
+
+static uint8_t any_byte(void)
+{
+    return (uint8_t)chance();
+}
+
+static uint8_t any_plain(void)
+{
+    return (uint8_t)between(0x20, 0x7E);
+}
+
+static uint8_t any_digit(void)
+{
+    return (uint8_t)between('0', '9');
+}
+
+static uint8_t any_capital(void)
+{
+    return (uint8_t)between('A', 'Z');
+}
+
+static uint8_t any_control(void)
+{
+    static const uint8_t controls[5] = {EOT, FS, GS, RS, US};
+    return controls[below(5)];
+}
+
+/* ---- Lent memory with guard zones ---- */
+
+enum { GUARD = 64, ARENA_ROOM = 24000 };
+
+typedef struct {
+    size_t start, length;  /* in bytes */
+    uint8_t behind[GUARD]; /* what the guard behind the buffer must be */
+    _Alignas(16) uint8_t memory[GUARD + 16 + ARENA_ROOM + GUARD];
+} arena;
+
+static uint8_t pattern[sizeof(((arena *)0)->memory)];
+
+static void make_pattern(void)
+{
+    static const char text[] = "guard-GUARD-#$%&";
+    for (size_t i = 0; i < sizeof pattern; i++) {
+        pattern[i] = (uint8_t)text[i % (sizeof text - 1)] ^ 0x80u;
+    }
+}
+
+/* Fills guards and buffer with the pattern. Bytes may be lent at any address. */
+static uint8_t *lend(arena *a, size_t length, size_t shift)
+{
+    if (length > ARENA_ROOM) {
+        fprintf(stderr, "the generator wants too large a buffer\n");
+        exit(2);
+    }
+    a->start = GUARD + shift;
+    a->length = length;
+    memcpy(a->memory, pattern, a->start + length + GUARD);
+    memcpy(a->behind, pattern + a->start + length, GUARD);
+    return a->memory + a->start;
+}
+
+/* Lends a message with bytes behind it that would go on with it: what was cut
+ * off, if there is such, or bytes drawn for that. A reader that looks behind the
+ * end is misled by them. A message stands in a label, so that it has remains. */
+static uint8_t *lend_message(arena *a, const uint8_t *message, size_t length)
+{
+    uint8_t *lent = lend(a, length, below(16));
+    if (length > 0) {
+        memcpy(lent, message, length);
+    }
+    switch (below(4)) {
+    case 0: break;
+    case 1:
+        for (size_t i = 0; i < 6; i++) {
+            a->behind[i] = one_of("\x04\x1D\x1E\x1F\x1E\x04" "0016A");
+        }
+        break;
+    default: memcpy(a->behind, message + length, GUARD); break;
+    }
+    memcpy(lent + length, a->behind, GUARD);
+    return lent;
+}
+
+static bool guards_stand(const arena *a)
+{
+    size_t end = a->start + a->length;
+    return memcmp(a->memory, pattern, a->start) == 0 &&
+           memcmp(a->memory + end, a->behind, GUARD) == 0;
+}
+
+static bool same_memory(const arena *a, const arena *b)
+{
+    return memcmp(a->memory, b->memory, a->start + a->length + GUARD) == 0;
+}
+
+/* The lent input is as it was, and so are its guards. */
+static bool input_stands(const arena *a, const void *original)
+{
+    return guards_stand(a) &&
+           (a->length == 0 || memcmp(a->memory + a->start, original, a->length) == 0);
+}
+
+/* ---- What a run has seen ---- */
+
+enum {
+    GOOD_READ,
+    CHANGED_READ,
+    NEAR_MISS_READ,
+    LENGTH_LIMIT_READ,
+    ROW_LIMIT_READ,
+    RANDOM_READ,
+    TRUE_WRITE,
+    FALSE_WRITE,
+    LIMIT_WRITE,
+    PARTS,
+    CASE_KINDS
+};
+
+/* Out of a thousand cases. */
+static const struct {
+    const char *name;
+    unsigned weight;
+} case_kinds[CASE_KINDS] = {
+    {"good messages, read", 170},
+    {"good messages changed, read", 200},
+    {"near misses of a known number, read", 200},
+    {"lengths 4,095 to 4,098, read", 8},
+    {"1,023 to 1,026 rows, read", 8},
+    {"random bytes, read", 84},
+    {"true rows, written", 110},
+    {"false rows, written", 160},
+    {"rows at the limits, written", 10},
+    {"parts", 50},
+};
+
+static uint64_t run_seed;
+static uint64_t case_number;
+static unsigned case_kind;
+static uint64_t cases_run[CASE_KINDS];
+static uint64_t numbers_seen[23];
+static uint64_t reads, writes, parts, written_back, read_back;
+
+static void see_number(uint32_t number)
+{
+    if (number < 23) {
+        numbers_seen[number]++;
+    }
+}
+
+/* ---- Reporting the first difference ---- */
+
+/* Plain bytes as they are, except `<`; all others by name or in hexadecimal. */
+static void print_bytes(const char *name, const uint8_t *bytes, size_t length)
+{
+    printf("%s (%zu bytes): ", name, length);
+    for (size_t i = 0; i < length; i++) {
+        switch (bytes[i]) {
+        case EOT: printf("<EOT>"); break;
+        case FS: printf("<FS>"); break;
+        case GS: printf("<GS>"); break;
+        case RS: printf("<RS>"); break;
+        case US: printf("<US>"); break;
+        default:
+            if (bytes[i] >= 0x20 && bytes[i] <= 0x7E && bytes[i] != '<') {
+                putchar(bytes[i]);
+            } else {
+                printf("<%02X>", bytes[i]);
+            }
+        }
+    }
+    putchar('\n');
+}
+
+static void print_rows(const char *name, const uint32_t *numbers, size_t length)
+{
+    printf("%s (%zu numbers):", name, length);
+    for (size_t i = 0; i < length; i++) {
+        printf(i % 4 == 0 ? " %u" : ",%u", numbers[i]);
+    }
+    putchar('\n');
+}
+
+static void print_heading(const char *what)
+{
+    printf("DIFFERENCE: %s\nseed %llu, case %llu (%s)\n", what, (unsigned long long)run_seed,
+           (unsigned long long)case_number, case_kinds[case_kind].name);
+}
+
+static void print_memory_difference(const char *name, const arena *library, const arena *reference)
+{
+    size_t end = library->start + library->length + GUARD;
+    for (size_t i = 0; i < end; i++) {
+        if (library->memory[i] != reference->memory[i]) {
+            printf("%s, byte %lld of %zu: library %02X, reference %02X\n", name,
+                   (long long)i - (long long)library->start, library->length,
+                   library->memory[i], reference->memory[i]);
+            return;
+        }
+    }
+}
+
+/* ---- Comparing the three operations ---- */
+
+/* What the generator knows by construction. */
+typedef struct {
+    bool number_known, place_known;
+    uint32_t number, place;
+    const uint32_t *rows; /* or null */
+    uint32_t envelopes, row_count;
+} knowledge;
+
+static const knowledge nothing_known = {0};
+
+static arena lent_message, lent_data, lent_rows;
+static arena library_table, reference_table, library_output, reference_output;
+
+static void *lent_or_null(void *buffer, size_t length)
+{
+#ifdef EMPTY_AS_NULL
+    if (length == 0 && case_number % 2 == 0) {
+        return NULL;
+    }
+#endif
+    (void)length;
+    return buffer;
+}
+
+/* For the reference, which allows it always. */
+static const void *given(const void *buffer, size_t length)
+{
+    return length == 0 ? NULL : buffer;
+}
+
+static _Noreturn void fail_read(const char *what, const uint8_t *message, size_t length,
+                                size_t table_length, zielorad_reading library,
+                                reference_reading reference)
+{
+    print_heading(what);
+    print_bytes("message", message, length);
+    printf("table of %zu numbers\n", table_length);
+    printf("library:   number %u, place %u, envelopes %u, rows %u\n", library.number,
+           library.place, library.envelopes, library.rows);
+    printf("reference: number %u, place %u, envelopes %u, rows %u\n", reference.number,
+           reference.place, reference.envelopes, reference.rows);
+    print_memory_difference("table", &library_table, &reference_table);
+    exit(1);
+}
+
+/* Reads with both and compares; what is accepted is written back. */
+static void compare_read(const uint8_t *message, size_t length, size_t table_length,
+                         const knowledge *known)
+{
+    uint8_t *input = lend_message(&lent_message, message, length);
+    uint32_t *table = (uint32_t *)(void *)lend(&library_table, table_length * 4, 0);
+    uint32_t *expected = (uint32_t *)(void *)lend(&reference_table, table_length * 4, 0);
+
+    zielorad_reading a = zielorad_read(lent_or_null(input, length), length,
+                                       lent_or_null(table, table_length), table_length);
+    reference_reading b = reference_read(given(message, length), length,
+                                         table_length == 0 ? NULL : expected, table_length);
+    reads++;
+    see_number(a.number);
+
+    const char *what = NULL;
+    if (a.number != b.number) {
+        what = "the numbers of the readings";
+    } else if (a.place != b.place) {
+        what = "the places of the readings";
+    } else if (a.envelopes != b.envelopes || a.rows != b.rows) {
+        what = "the counts of the readings";
+    } else if (!guards_stand(&library_table)) {
+        what = "the library wrote outside the table";
+    } else if (!guards_stand(&reference_table)) {
+        what = "the reference wrote outside the table";
+    } else if (!same_memory(&library_table, &reference_table)) {
+        what = "the tables";
+    } else if (!input_stands(&lent_message, message)) {
+        what = "the library changed the message or its surroundings";
+    } else if (a.number == 0 ? a.place != 0 : a.envelopes != 0 || a.rows != 0) {
+        what = "both readings have an acceptance's place or a refusal's counts";
+    } else if (known->number_known && a.number != known->number) {
+        what = "both readings differ from the number known by construction";
+    } else if (known->place_known && a.place != known->place) {
+        what = "both readings differ from the place known by construction";
+    } else if (a.number == 0 && known->rows != NULL &&
+               (a.envelopes != known->envelopes || a.rows != known->row_count ||
+                memcmp(table, known->rows, (size_t)known->row_count * 16) != 0)) {
+        what = "both readings differ from the rows known by construction";
+    }
+    if (what != NULL) {
+        if (known->number_known) {
+            printf("known: number %u, place %u\n", known->number, known->place);
+        }
+        fail_read(what, message, length, table_length, a, b);
+    }
+
+    if (a.number == 0) {
+        uint8_t *output = lend(&library_output, length + 1, below(16));
+        zielorad_written back = zielorad_write(input, length, table, (size_t)a.rows * 4,
+                                               output, length);
+        written_back++;
+        if (back.number != 0 || back.count != length || memcmp(output, message, length) != 0) {
+            printf("written back: number %u, count %u\n", back.number, back.count);
+            fail_read("what was read and written back isn't the message", message, length,
+                      table_length, a, b);
+        }
+        if (output[length] != pattern[library_output.start + length] ||
+            !guards_stand(&library_output) || !input_stands(&lent_message, message) ||
+            !same_memory(&library_table, &reference_table)) {
+            fail_read("writing back changed other memory", message, length, table_length, a, b);
+        }
+    }
+}
+
+static _Noreturn void fail_write(const char *what, const uint8_t *data, size_t data_length,
+                                 const uint32_t *rows, size_t rows_length, size_t output_length,
+                                 zielorad_written library, reference_written reference)
+{
+    print_heading(what);
+    print_bytes("data", data, data_length);
+    print_rows("rows", rows, rows_length);
+    printf("output of %zu bytes\n", output_length);
+    printf("library:   number %u, count %u\n", library.number, library.count);
+    printf("reference: number %u, count %u\n", reference.number, reference.count);
+    print_memory_difference("output", &library_output, &reference_output);
+    exit(1);
+}
+
+enum { NOT_KNOWN = 99 };
+
+/* Writes with both and compares; what is written is read back. */
+static void compare_write(const uint8_t *data, size_t data_length, const uint32_t *rows,
+                          size_t rows_length, size_t output_length, uint32_t known_number)
+{
+    size_t shift = below(16);
+    uint8_t *input = lend(&lent_data, data_length, shift);
+    if (data_length > 0) {
+        memcpy(input, data, data_length);
+    }
+    uint32_t *numbers = (uint32_t *)(void *)lend(&lent_rows, rows_length * 4, 0);
+    if (rows_length > 0) {
+        memcpy(numbers, rows, rows_length * 4);
+    }
+    uint8_t *output = lend(&library_output, output_length, shift);
+    uint8_t *expected = lend(&reference_output, output_length, shift);
+
+    zielorad_written a = zielorad_write(lent_or_null(input, data_length), data_length,
+                                        lent_or_null(numbers, rows_length), rows_length,
+                                        lent_or_null(output, output_length), output_length);
+    reference_written b = reference_write(given(data, data_length), data_length,
+                                          given(rows, rows_length), rows_length,
+                                          output_length == 0 ? NULL : expected, output_length);
+    writes++;
+    see_number(a.number);
+
+    const char *what = NULL;
+    if (a.number != b.number) {
+        what = "the numbers of the writings";
+    } else if (a.count != b.count) {
+        what = "the counts of the writings";
+    } else if (!guards_stand(&library_output)) {
+        what = "the library wrote outside the output";
+    } else if (!guards_stand(&reference_output)) {
+        what = "the reference wrote outside the output";
+    } else if (!same_memory(&library_output, &reference_output)) {
+        what = "the outputs";
+    } else if (!input_stands(&lent_data, data)) {
+        what = "the library changed the data or its surroundings";
+    } else if (!input_stands(&lent_rows, rows)) {
+        what = "the library changed the rows or their surroundings";
+    } else if (a.number != 0 && a.count != 0) {
+        what = "both writings have a refusal's count";
+    } else if (known_number != NOT_KNOWN && a.number != known_number) {
+        printf("known: number %u\n", known_number);
+        what = "both writings differ from the number known by construction";
+    }
+    if (what != NULL) {
+        fail_write(what, data, data_length, rows, rows_length, output_length, a, b);
+    }
+
+    if (a.number == 0) {
+        uint32_t *table = (uint32_t *)(void *)lend(&library_table, rows_length * 4, 0);
+        zielorad_reading back = zielorad_read(output, a.count, table, rows_length);
+        read_back++;
+        bool same = back.number == 0 && (size_t)back.rows * 4 == rows_length;
+        for (size_t i = 0; same && i < rows_length; i += 4) {
+            same = table[i] == rows[i] && table[i + 1] == rows[i + 1] &&
+                   table[i + 3] == rows[i + 3] && table[i + 2] <= a.count &&
+                   table[i + 3] <= a.count - table[i + 2] &&
+                   memcmp(output + table[i + 2], input + rows[i + 2], rows[i + 3]) == 0;
+        }
+        if (!same) {
+            print_bytes("written", output, a.count);
+            printf("read back: number %u, place %u, envelopes %u, rows %u\n", back.number,
+                   back.place, back.envelopes, back.rows);
+            fail_write("what was written doesn't read back", data, data_length, rows,
+                       rows_length, output_length, a, b);
+        }
+    }
+}
+
+/* The part of one row; known by construction if there are known rows. */
+static void compare_part(const uint8_t *message, size_t length, size_t row,
+                         const knowledge *known)
+{
+    uint8_t *input = lend_message(&lent_message, message, length);
+    zielorad_part a = zielorad_part_of(lent_or_null(input, length), length, row);
+    reference_part b = reference_part_of(given(message, length), length, row);
+    parts++;
+
+    const char *what = NULL;
+    if (a.start != b.start || a.length != b.length) {
+        what = "the parts";
+    } else if (!input_stands(&lent_message, message)) {
+        what = "the library changed the message or its surroundings";
+    } else if (known->rows != NULL) {
+        bool is_there = row < known->row_count;
+        size_t start = is_there ? known->rows[4 * row + 2] : 0;
+        size_t part_length = is_there ? known->rows[4 * row + 3] : 0;
+        if (a.start != start || a.length != part_length) {
+            what = "both parts differ from the part known by construction";
+        }
+    }
+    if (what != NULL) {
+        print_heading(what);
+        print_bytes("message", message, length);
+        printf("part of row %zu\n", row);
+        printf("library:   start %zu, length %zu\n", a.start, a.length);
+        printf("reference: start %zu, length %zu\n", b.start, b.length);
+        exit(1);
+    }
+}
+
+/* ---- Good messages ---- */
+
+enum { LABEL_ROOM = 12000, LABEL_ROWS = 2000 };
+
+/* A message under construction and the rows it has by construction. */
+typedef struct {
+    size_t length;
+    size_t reached; /* the greatest length so far */
+    uint32_t envelopes;
+    size_t row_count;
+    size_t indicator; /* the last envelope's offset */
+    size_t body;      /* the last envelope's body */
+    bool closed;      /* format 02 took all the rest */
+    uint8_t bytes[LABEL_ROOM + GUARD];
+    uint32_t rows[4 * LABEL_ROWS];
+} label;
+
+static label the_label, second_label;
+
+static void put(label *l, uint8_t byte)
+{
+    if (l->length == LABEL_ROOM) {
+        fprintf(stderr, "the generator wants too long a message\n");
+        exit(2);
+    }
+    l->bytes[l->length++] = byte;
+    if (l->length > l->reached) {
+        l->reached = l->length;
+    }
+}
+
+static void put_string(label *l, const char *text)
+{
+    while (*text != 0) {
+        put(l, (uint8_t)*text++);
+    }
+}
+
+static void put_digits(label *l, size_t count)
+{
+    while (count-- > 0) {
+        put(l, any_digit());
+    }
+}
+
+/* Plain bytes of several flavours. */
+static void put_text(label *l, size_t count)
+{
+    size_t flavour = below(5);
+    while (count-- > 0) {
+        switch (flavour) {
+        case 0: put(l, any_digit()); break;
+        case 1: put(l, any_capital()); break;
+        case 2: put(l, one_of("[)>/BIN029605 ~+YN")); break;
+        default: put(l, any_plain()); break;
+        }
+    }
+}
+
+static size_t some_length(size_t least, size_t greatest)
+{
+    switch (below(4)) {
+    case 0: return least;
+    case 1: return greatest;
+    default: return between(least, greatest);
+    }
+}
+
+static void note_row(label *l, uint32_t kind, uint32_t format, size_t start)
+{
+    if (l->row_count == LABEL_ROWS) {
+        fprintf(stderr, "the generator wants too many rows\n");
+        exit(2);
+    }
+    uint32_t *row = &l->rows[4 * l->row_count++];
+    row[0] = kind;
+    row[1] = format;
+    row[2] = (uint32_t)start;
+    row[3] = (uint32_t)(l->length - start);
+}
+
+static void open_message(label *l)
+{
+    memset(l->bytes, 0, l->reached); /* no remains of another case */
+    l->reached = 0;
+    l->length = 0;
+    l->envelopes = 0;
+    l->row_count = 0;
+    l->closed = false;
+    l->indicator = l->body = 0;
+    put_string(l, "[)>\x1E");
+}
+
+static void put_indicator(label *l, unsigned format)
+{
+    l->indicator = l->length;
+    put(l, '0');
+    put(l, (uint8_t)('0' + format));
+    note_row(l, 1, format, l->indicator);
+    l->body = l->length;
+}
+
+static void end_envelope(label *l)
+{
+    put(l, RS);
+    l->envelopes++;
+}
+
+enum { VERSION_02, VERSION_96 };
+
+/* Least and greatest lengths of fields 1 to 15 by the table of document 01. */
+static size_t least_of_field(unsigned version, unsigned field)
+{
+    static const uint8_t least[15] = {3, 3, 1, 1, 2, 1, 3, 1, 3, 1, 1, 1, 1, 2, 1};
+    return version == VERSION_02 && field == 1 ? 0 : least[field - 1];
+}
+
+static size_t greatest_of_field(unsigned field)
+{
+    static const uint8_t greatest[15] = {11, 3, 3, 20, 4, 10, 3, 30, 9, 10, 1, 35, 35, 2, 35};
+    return greatest[field - 1];
+}
+
+static unsigned fields_of(unsigned version)
+{
+    return version == VERSION_02 ? 15 : 14;
+}
+
+/* A field's bytes are right whenever its length is. */
+static void put_field(label *l, unsigned field, size_t length)
+{
+    size_t start = l->length;
+    if (field == 2 || field == 7) {
+        put_digits(l, length);
+    } else if (field == 9 && length >= 2) {
+        size_t left = length / 2;
+        if (length >= 3 && length <= 9) {
+            left = between(length > 6 ? length - 5 : 1, length - 2 < 4 ? length - 2 : 4);
+        }
+        put_digits(l, left);
+        put(l, '/');
+        put_digits(l, length - left - 1);
+    } else if (field == 11) {
+        while (length-- > 0) {
+            put(l, one_of("YN"));
+        }
+    } else {
+        put_text(l, length);
+    }
+    note_row(l, 3, 1, start);
+}
+
+static void put_header_01(label *l, unsigned version)
+{
+    put_indicator(l, 1);
+    put(l, GS);
+    put_string(l, version == VERSION_02 ? "02" : "96");
+    note_row(l, 2, 1, l->length - 2);
+    l->body = l->length;
+}
+
+/* Good fields, except that one may be given another length. */
+static void put_fields(label *l, unsigned version, unsigned count, unsigned odd, size_t odd_length)
+{
+    for (unsigned field = 1; field <= count; field++) {
+        if (field > 1) {
+            put(l, GS);
+        }
+        unsigned shape = field > 15 ? 15 : field;
+        size_t length = some_length(least_of_field(version, shape), greatest_of_field(shape));
+        if (field > 5 && field < count && one_in(2)) {
+            length = 0;
+        }
+        put_field(l, field, field == odd ? odd_length : length);
+    }
+}
+
+static void good_01(label *l)
+{
+    unsigned version = (unsigned)below(2);
+    put_header_01(l, version);
+    put_fields(l, version, (unsigned)between(5, fields_of(version)), 0, 0);
+    end_envelope(l);
+}
+
+static uint8_t byte_of_02(void)
+{
+    for (;;) {
+        uint8_t byte = one_in(4) ? (uint8_t)one_of("\x1C\x1D\x1F\x7F\x01\x0A") : (uint8_t)below(128);
+        if (byte != RS && byte != EOT) {
+            return byte;
+        }
+    }
+}
+
+static void good_02(label *l, size_t length)
+{
+    put_indicator(l, 2);
+    while (length-- > 0) {
+        put(l, byte_of_02());
+    }
+    note_row(l, 7, 2, l->body);
+    l->envelopes++;
+    l->closed = true;
+}
+
+static void put_header_03_04(label *l, unsigned format)
+{
+    put_indicator(l, format);
+    for (unsigned i = 0; i < 6; i++) {
+        put(l, one_in(2) ? any_digit() : any_capital());
+    }
+    note_row(l, 2, format, l->length - 6);
+    put_string(l, "\x1C\x1D\x1F");
+    l->body = l->length;
+}
+
+static void put_tag(label *l, unsigned format)
+{
+    size_t start = l->length;
+    if (format == 4 && one_in(4)) {
+        put_string(l, "BIN");
+    } else if (format == 3 && one_in(8)) {
+        static const char *const nearly[] = {"BI", "BIM", "BIO", "BIA", "IN", "CIN", "BJN", "BI0"};
+        put_string(l, nearly[below(8)]);
+    } else {
+        size_t length = between(2, 3);
+        put(l, any_capital());
+        for (size_t i = 1; i < length; i++) {
+            put(l, one_in(3) ? any_digit() : any_capital());
+        }
+        if (format == 3 && memcmp(l->bytes + start, "BIN", 3) == 0 && length == 3) {
+            l->bytes[start] = 'A';
+        }
+    }
+    note_row(l, 4, format, start);
+}
+
+static void put_segment(label *l, unsigned format)
+{
+    put_tag(l, format);
+    size_t elements = below(4);
+    while (elements-- > 0) {
+        put(l, GS);
+        size_t sub_elements = one_in(2) ? 1 : between(1, 4);
+        for (size_t i = 0; i < sub_elements; i++) {
+            if (i > 0) {
+                put(l, US);
+            }
+            size_t start = l->length;
+            if (one_in(8)) {
+                put_string(l, "BIN");
+            } else {
+                put_text(l, one_in(3) ? 0 : between(1, 8));
+            }
+            note_row(l, i == 0 ? 5 : 6, format, start);
+        }
+    }
+    put(l, FS);
+}
+
+static void good_03_04(label *l, unsigned format)
+{
+    put_header_03_04(l, format);
+    size_t segments = between(1, 4);
+    while (segments-- > 0) {
+        put_segment(l, format);
+    }
+    end_envelope(l);
+}
+
+static void put_element(label *l, unsigned format)
+{
+    size_t start = l->length;
+    if (format == 5) {
+        put_digits(l, 2);
+    } else {
+        put_digits(l, below(4));
+        put(l, any_capital());
+    }
+    put_text(l, some_length(1, 12));
+    note_row(l, 3, format, start);
+}
+
+static void good_05_06(label *l, unsigned format)
+{
+    put_indicator(l, format);
+    put(l, GS);
+    l->body = l->length;
+    size_t elements = between(1, 5);
+    for (size_t i = 0; i < elements; i++) {
+        if (i > 0) {
+            put(l, GS);
+        }
+        put_element(l, format);
+    }
+    end_envelope(l);
+}
+
+static uint8_t byte_of_07(void)
+{
+    for (;;) {
+        uint8_t byte = byte_of_02();
+        if (byte != FS && byte != GS && byte != US) {
+            return byte;
+        }
+    }
+}
+
+static void good_07(label *l, size_t length)
+{
+    put_indicator(l, 7);
+    while (length-- > 0) {
+        put(l, byte_of_07());
+    }
+    note_row(l, 7, 7, l->body);
+    end_envelope(l);
+}
+
+/* A 09 header with values of the given lengths and a count as text. */
+static void put_header_09(label *l, size_t type, size_t compression, const char *count)
+{
+    put_indicator(l, 9);
+    put(l, GS);
+    put_text(l, type);
+    note_row(l, 2, 9, l->length - type);
+    put(l, GS);
+    put_text(l, compression);
+    note_row(l, 2, 9, l->length - compression);
+    put(l, GS);
+    put_string(l, count);
+    note_row(l, 2, 9, l->length - strlen(count));
+    put(l, GS);
+    l->body = l->length;
+}
+
+static void put_good_header_09(label *l, unsigned long long count)
+{
+    char shortest[24], text[24];
+    snprintf(shortest, sizeof shortest, "%llu", count);
+    size_t zeros = one_in(2) ? 0 : some_length(0, 15 - strlen(shortest));
+    memset(text, '0', zeros);
+    strcpy(text + zeros, shortest);
+    put_header_09(l, some_length(1, 30), some_length(0, 30), text);
+}
+
+static uint8_t byte_of_09(void)
+{
+    return one_in(3) ? any_control() : any_byte();
+}
+
+static void good_09(label *l, size_t length)
+{
+    put_good_header_09(l, length);
+    while (length-- > 0) {
+        put(l, byte_of_09());
+    }
+    note_row(l, 7, 9, l->body);
+    end_envelope(l);
+}
+
+static void good_envelope(label *l, unsigned format)
+{
+    switch (format) {
+    case 1: good_01(l); break;
+    case 2: good_02(l, some_length(1, 40)); break;
+    case 3:
+    case 4: good_03_04(l, format); break;
+    case 5:
+    case 6: good_05_06(l, format); break;
+    case 7: good_07(l, some_length(0, 30)); break;
+    default: good_09(l, some_length(0, 30)); break;
+    }
+}
+
+static unsigned later_format(void)
+{
+    static const uint8_t formats[] = {3, 4, 5, 6, 7, 9};
+    return formats[below(6)];
+}
+
+/* Good envelopes without 02 at the start of a message. */
+static void good_prefix(label *l, size_t envelopes)
+{
+    open_message(l);
+    for (size_t i = 0; i < envelopes; i++) {
+        good_envelope(l, i == 0 && one_in(4) ? 1 : later_format());
+    }
+}
+
+static void good_message(label *l)
+{
+    open_message(l);
+    static const uint8_t first[] = {1, 1, 2, 3, 4, 5, 6, 7, 9};
+    size_t envelopes = one_in(2) ? 1 : between(2, 6);
+    good_envelope(l, first[below(sizeof first)]);
+    if (l->closed) {
+        return;
+    }
+    while (l->envelopes < envelopes) {
+        good_envelope(l, later_format());
+    }
+    put(l, EOT);
+}
+
+static knowledge known_good(const label *l)
+{
+    knowledge known = {true, true, 0, 0, l->rows, l->envelopes, (uint32_t)l->row_count};
+    return known;
+}
+
+static knowledge known_refusal(uint32_t number, size_t place)
+{
+    knowledge known = {true, true, number, (uint32_t)place, NULL, 0, 0};
+    return known;
+}
+
+/* Table lengths of every small size and around the needed one. */
+static size_t some_table(size_t row_count)
+{
+    size_t needed = 4 * row_count;
+    switch (below(10)) {
+    case 0: return below(41);
+    case 1: return needed == 0 ? 0 : needed - 1;
+    case 2: return below(needed + 1);
+    case 3: return needed + between(1, 3);
+    case 4: return needed + between(4, 40);
+    case 5: return one_in(4) ? between(4090, 4110) : needed + 8;
+    case 6: return needed >= 4 ? needed - 4 : 0;
+    default: return needed;
+    }
+}
+
+static void read_good(label *l, size_t table_length)
+{
+    knowledge known = known_good(l);
+    if (table_length / 4 < l->row_count) {
+        known = known_refusal(14, 0);
+    }
+    compare_read(l->bytes, l->length, table_length, &known);
+}
+
+static void case_good_read(void)
+{
+    good_message(&the_label);
+    read_good(&the_label, some_table(the_label.row_count));
+}
+
+/* ---- Good messages changed ---- */
+
+static void insert_byte(label *l, size_t at, uint8_t byte)
+{
+    put(l, 0);
+    memmove(l->bytes + at + 1, l->bytes + at, l->length - at - 1);
+    l->bytes[at] = byte;
+}
+
+static void remove_byte(label *l, size_t at)
+{
+    memmove(l->bytes + at, l->bytes + at + 1, l->length - at - 1);
+    l->length--;
+}
+
+static void strip(label *l, bool (*unwanted)(uint8_t))
+{
+    size_t kept = 0;
+    for (size_t i = 0; i < l->length; i++) {
+        if (!unwanted(l->bytes[i])) {
+            l->bytes[kept++] = l->bytes[i];
+        }
+    }
+    l->length = kept;
+}
+
+static uint8_t stripped_byte;
+
+static bool is_stripped_byte(uint8_t byte)
+{
+    return byte == stripped_byte;
+}
+
+static bool is_control(uint8_t byte)
+{
+    return byte == EOT || byte == FS || byte == GS || byte == RS || byte == US;
+}
+
+static uint8_t odd_byte(void)
+{
+    switch (below(5)) {
+    case 0: return any_control();
+    case 1: return any_digit();
+    case 2: return any_plain();
+    case 3: return (uint8_t)"\x1F\x20\x7E\x7F\x80\x81\xFF/:@[`{"[below(13)];
+    default: return any_byte();
+    }
+}
+
+/* The offset of a control byte, or any offset if chance finds none. */
+static size_t some_offset(const label *l)
+{
+    size_t at = below(l->length);
+    if (one_in(2)) {
+        for (size_t i = 0; i < l->length; i++) {
+            size_t turned = (at + i) % l->length;
+            if (is_control(l->bytes[turned])) {
+                return turned;
+            }
+        }
+    }
+    return at;
+}
+
+static void change(label *l)
+{
+    if (l->length == 0) {
+        put(l, odd_byte());
+        return;
+    }
+    size_t at = some_offset(l);
+    switch (below(14)) {
+    case 0: l->bytes[at] = odd_byte(); break;
+    case 1: l->bytes[at] ^= (uint8_t)(1u << below(8)); break;
+    case 2: l->bytes[at] = (uint8_t)(l->bytes[at] + (one_in(2) ? 1 : 255)); break;
+    case 3:
+    case 4: remove_byte(l, at); break;
+    case 5: insert_byte(l, at, odd_byte()); break;
+    case 6: insert_byte(l, at, any_control()); break;
+    case 7: insert_byte(l, at, l->bytes[at]); break;
+    case 8:
+        if (one_in(2)) {
+            strip(l, is_control);
+        } else {
+            stripped_byte = any_control();
+            strip(l, is_stripped_byte);
+        }
+        break;
+    case 9: l->length = below(l->length + 1); break;
+    case 10: l->length -= 1; break;
+    case 11:
+        for (size_t more = between(1, 3); more > 0; more--) {
+            put(l, odd_byte());
+        }
+        break;
+    case 12: {
+        size_t other = below(l->length);
+        uint8_t byte = l->bytes[at];
+        l->bytes[at] = l->bytes[other];
+        l->bytes[other] = byte;
+        break;
+    }
+    default: l->bytes[at] = any_control(); break;
+    }
+}
+
+static void case_changed_read(void)
+{
+    good_message(&the_label);
+    size_t changes = one_in(3) ? between(2, 3) : 1;
+    while (changes-- > 0) {
+        change(&the_label);
+    }
+    compare_read(the_label.bytes, the_label.length, some_table(the_label.row_count), &nothing_known);
+}
+
+/* ---- Near misses, each with the number and place it must have ---- */
+
+static void put_odd_bytes(label *l, size_t count)
+{
+    while (count-- > 0) {
+        put(l, odd_byte());
+    }
+}
+
+/* What may follow where the refusal is certain already. */
+static void put_tail(label *l)
+{
+    switch (below(4)) {
+    case 0: break;
+    case 1: put_string(l, "\x1E\x04"); break;
+    case 2:
+        put(l, RS);
+        good_envelope(l, later_format());
+        put(l, EOT);
+        break;
+    default: put_odd_bytes(l, below(8)); break;
+    }
+}
+
+static uint8_t no_digit(void)
+{
+    for (;;) {
+        uint8_t byte = odd_byte();
+        if (byte < '0' || byte > '9') {
+            return byte;
+        }
+    }
+}
+
+static uint8_t no_byte_of(const char *bytes)
+{
+    for (;;) {
+        uint8_t byte = odd_byte();
+        if (byte == 0 || strchr(bytes, byte) == NULL) {
+            return byte;
+        }
+    }
+}
+
+static void miss_2(label *l, size_t *place)
+{
+    good_message(l);
+    size_t at = below(4);
+    *place = at;
+    if (one_in(2)) {
+        l->length = at;
+    } else {
+        uint8_t right = l->bytes[at];
+        while (l->bytes[at] == right) {
+            l->bytes[at] = odd_byte();
+        }
+        if (one_in(3)) {
+            l->length = between(at + 1, l->length);
+        }
+    }
+}
+
+static void miss_3(label *l, size_t *place)
+{
+    good_prefix(l, below(3));
+    *place = l->length;
+    switch (below(3)) {
+    case 0:
+        put(l, any_digit());
+        break;
+    case 1:
+        put(l, any_digit());
+        put(l, no_digit());
+        put_tail(l);
+        break;
+    default:
+        if (l->envelopes == 0) {
+            if (one_in(3)) {
+                break; /* the end */
+            }
+            put(l, one_in(2) ? EOT : no_digit());
+        } else {
+            uint8_t byte = EOT;
+            while (byte == EOT) {
+                byte = no_digit();
+            }
+            put(l, byte);
+        }
+        put_tail(l);
+        break;
+    }
+}
+
+static void miss_4(label *l, size_t *place)
+{
+    good_prefix(l, between(1, 4));
+    *place = l->length;
+}
+
+static void miss_5(label *l, size_t *place)
+{
+    good_prefix(l, between(1, 4));
+    put(l, EOT);
+    *place = l->length;
+    put_odd_bytes(l, between(1, 4));
+}
+
+static void miss_6(label *l, size_t *place)
+{
+    good_prefix(l, below(4));
+    *place = l->length;
+    if (one_in(3)) {
+        put(l, '0');
+        put(l, one_of("08"));
+    } else {
+        put(l, (uint8_t)between('1', '9'));
+        put(l, any_digit());
+    }
+    put_tail(l);
+}
+
+static void miss_7(label *l, size_t *place)
+{
+    good_prefix(l, between(1, 3));
+    *place = l->length;
+    switch (below(4)) {
+    case 0:
+        put_string(l, one_in(2) ? "01" : "02");
+        put_tail(l);
+        break;
+    case 1:
+        good_02(l, some_length(1, 10));
+        break;
+    default:
+        good_01(l);
+        put(l, EOT);
+        break;
+    }
+}
+
+/* Cuts the message somewhere behind the indicator and before its body. */
+static void cut_header(label *l)
+{
+    l->length = between(l->indicator + 2, l->body - 1);
+}
+
+static void miss_8(label *l, size_t *place)
+{
+    good_prefix(l, below(3));
+    *place = l->length;
+    static const uint8_t formats[] = {3, 4, 5, 6, 9, 9, 9};
+    unsigned format = l->envelopes == 0 && one_in(5) ? 1 : formats[below(sizeof formats)];
+    size_t at;
+    switch (format) {
+    case 1: {
+        put_header_01(l, (unsigned)below(2));
+        static const char *const versions[] = {"06", "56", "01", "97", "20", "69", "92", "86", "03", "00"};
+        switch (below(4)) {
+        case 0: cut_header(l); return;
+        case 1: l->bytes[l->body - 3] = no_byte_of("\x1D"); break;
+        case 2: memcpy(l->bytes + l->body - 2, versions[below(10)], 2); break;
+        default:
+            at = l->body - between(1, 2);
+            l->bytes[at] = (uint8_t)(l->bytes[at] ^ (1u << below(8)));
+            break;
+        }
+        put_fields(l, VERSION_96, 5, 0, 0);
+        put_tail(l);
+        break;
+    }
+    case 3:
+    case 4:
+        put_header_03_04(l, format);
+        at = l->indicator + 2;
+        switch (below(6)) {
+        case 0: cut_header(l); return;
+        case 1:
+            at += below(6);
+            l->bytes[at] = one_in(2) ? (uint8_t)between('a', 'z')
+                                     : one_of("/:@[ \x1C\x1D\x1E\x1F\x04");
+            break;
+        case 2: remove_byte(l, at + below(6)); break;
+        case 3: insert_byte(l, at + below(7), one_in(2) ? any_digit() : any_capital()); break;
+        case 4: remove_byte(l, at + 6 + below(3)); break;
+        default: {
+            size_t separator = at + 6 + below(3);
+            uint8_t right = l->bytes[separator];
+            while (l->bytes[separator] == right) {
+                l->bytes[separator] = odd_byte();
+            }
+            break;
+        }
+        }
+        put_segment(l, format);
+        put_tail(l);
+        break;
+    case 5:
+    case 6:
+        put_indicator(l, format);
+        if (one_in(4)) {
+            return;
+        }
+        put(l, no_byte_of("\x1D"));
+        put_element(l, format);
+        put_tail(l);
+        break;
+    default: {
+        size_t payload = below(20);
+        char count[24];
+        snprintf(count, sizeof count, "%zu", payload);
+        switch (below(9)) {
+        case 0: put_header_09(l, 0, below(31), count); break;
+        case 1: put_header_09(l, 31, below(31), count); break;
+        case 2: put_header_09(l, between(1, 30), 31, count); break;
+        case 3: put_header_09(l, between(1, 30), below(31), ""); break;
+        case 4:
+            snprintf(count, sizeof count, "%016zu", payload);
+            if (one_in(3)) {
+                memset(count, '9', 16);
+            }
+            put_header_09(l, between(1, 30), below(31), count);
+            break;
+        case 5: /* no digit in the count */
+            snprintf(count, sizeof count, "%03zu", payload);
+            count[below(3)] = (char)one_of("-+ ./:Ax\x1E\x1F");
+            put_header_09(l, between(1, 30), below(31), count);
+            break;
+        case 6: /* no plain byte in a value */
+            put_good_header_09(l, payload);
+            at = l->rows[4 * (l->row_count - (one_in(2) ? 3 : 2)) + 2]; /* type or compression */
+            insert_byte(l, at, one_of("\x1E\x1C\x1F\x7F\x04\xFF"));
+            break;
+        case 7: /* another byte where a GS is due */
+            put_good_header_09(l, payload);
+            l->bytes[one_in(2) ? l->indicator + 2 : l->body - 1] = one_of("\x1E\x1C\x1F\x04.");
+            break;
+        default:
+            put_good_header_09(l, payload);
+            cut_header(l);
+            return;
+        }
+        while (payload-- > 0) {
+            put(l, byte_of_09());
+        }
+        put_tail(l);
+        break;
+    }
+    }
+}
+
+static void miss_9(label *l, size_t *place)
+{
+    good_prefix(l, below(3));
+    *place = l->length;
+    size_t payload = some_length(0, 25);
+    unsigned long long count = payload;
+    bool is_whole = true;
+    uint8_t end = RS;
+    switch (below(6)) {
+    case 0: count = payload + 1; break;
+    case 1: payload += 1; break;
+    case 2: {
+        static const unsigned long long huge[] = {
+            1000, 4096, 65536, 4294967295u, 4294967296u,
+            999999999999999u, 100000000000000u, 281474976710656u};
+        count += huge[below(8)];
+        if (count > 999999999999999u) {
+            count = 999999999999999u;
+        }
+        break;
+    }
+    case 3: end = no_byte_of("\x1E"); break;
+    case 4: is_whole = false; break;
+    default: count = payload + between(1, 3); break;
+    }
+    put_good_header_09(l, count);
+    size_t stop = is_whole ? payload : between(0, payload);
+    for (size_t i = 0; i < stop; i++) {
+        put(l, byte_of_09());
+    }
+    if (!is_whole) {
+        return;
+    }
+    if (count == 0 || count < payload) {
+        /* The byte where the RS is due is the last of the payload. */
+        if (payload > 0 && l->bytes[l->length - 1] == RS) {
+            l->bytes[l->length - 1] = GS;
+        }
+    }
+    put(l, end);
+    if (one_in(2)) {
+        put(l, EOT);
+        if (one_in(2)) {
+            put_string(l, "XYZ");
+        }
+    }
+}
+
+/* A byte that the body of a format doesn't permit, but not the RS that ends it. */
+static uint8_t byte_not_permitted(unsigned format)
+{
+    for (;;) {
+        uint8_t byte = odd_byte();
+        bool plain = byte >= 0x20 && byte <= 0x7E;
+        switch (format) {
+        case 2:
+            if (byte >= 0x80 || byte == RS || byte == EOT) {
+                return byte;
+            }
+            break;
+        case 3:
+        case 4:
+            if (!plain && byte != FS && byte != GS && byte != US && byte != RS) {
+                return byte;
+            }
+            break;
+        case 7:
+            if (byte >= 0x80 || (is_control(byte) && byte != RS)) {
+                return byte;
+            }
+            break;
+        default:
+            if (!plain && byte != GS && byte != RS) {
+                return byte;
+            }
+            break;
+        }
+    }
+}
+
+static void miss_10(label *l, size_t *place)
+{
+    good_prefix(l, below(3));
+    *place = l->length;
+    static const uint8_t formats[] = {3, 4, 5, 6, 7};
+    unsigned format = l->envelopes == 0 && one_in(2) ? (unsigned)between(1, 2) : formats[below(5)];
+    good_envelope(l, format);
+    size_t end = format == 2 ? l->length : l->length - 1;
+    if (one_in(2) && end > l->body) {
+        l->bytes[between(l->body, end - 1)] = byte_not_permitted(format);
+    } else {
+        insert_byte(l, between(l->body, end), byte_not_permitted(format));
+    }
+    if (format != 2 || one_in(2)) {
+        put_tail(l);
+    }
+}
+
+static void miss_11_in_01(label *l)
+{
+    unsigned version = (unsigned)below(2);
+    unsigned most = fields_of(version);
+    unsigned field;
+    put_header_01(l, version);
+    switch (below(9)) {
+    case 0: put_fields(l, version, (unsigned)between(0, 4), 0, 0); break;
+    case 6: /* a field that must be there is empty */
+        field = (unsigned)between(version == VERSION_02 ? 2 : 1, 5);
+        put_fields(l, version, (unsigned)between(5, most), field, 0);
+        break;
+    case 1: /* too many, the last of them empty or not */
+        field = most + (unsigned)some_length(1, 3);
+        put_fields(l, version, field, one_in(2) ? field : 0, 0);
+        break;
+    case 2: { /* the last field is empty */
+        unsigned count = (unsigned)between(6, most);
+        put_fields(l, version, count, count, 0);
+        break;
+    }
+    case 3:
+    case 4: /* one beyond */
+        field = (unsigned)between(1, most);
+        put_fields(l, version, (unsigned)between(field < 5 ? 5 : field, most), field,
+                   greatest_of_field(field) + 1);
+        break;
+    case 5: /* one short, where that isn't an empty field that may be */
+        do {
+            field = (unsigned)between(1, most);
+        } while (least_of_field(version, field) == 0);
+        {
+            size_t length = least_of_field(version, field) - 1;
+            unsigned count = (unsigned)between(field < 5 ? 5 : field, most);
+            if (length == 0 && field > 5) {
+                count = field;
+            }
+            put_fields(l, version, count, field, length);
+        }
+        break;
+    default: { /* right lengths, wrong bytes */
+        static const uint8_t fields[] = {2, 7, 9, 11};
+        field = fields[below(4)];
+        unsigned count = (unsigned)between(field < 5 ? 5 : field, most);
+        put_fields(l, version, count, field, field == 9 ? between(3, 9) : greatest_of_field(field));
+        size_t row = l->row_count - (count - field) - 1;
+        size_t start = l->rows[4 * row + 2], length = l->rows[4 * row + 3];
+        if (field == 9) {
+            static const char *const wrong[] = {
+                "12345/1", "1/12345", "/12", "12/", "123", "1-2",
+                "1//2", "1/2/3", "a/1", "1/a", "1 /2", "///"};
+            const char *text = wrong[below(12)];
+            while (length-- > 0) {
+                remove_byte(l, start);
+            }
+            for (size_t i = 0; text[i] != 0; i++) {
+                insert_byte(l, start + i, (uint8_t)text[i]);
+            }
+        } else if (field == 11) {
+            l->bytes[start] = one_of("XynMOZ 01");
+        } else {
+            l->bytes[start + below(3)] = one_of("/:A -o");
+        }
+        break;
+    }
+    }
+}
+
+static void miss_11_in_03_04(label *l, unsigned format)
+{
+    static const char *const tags[] = {
+        "A", "", "ABCD", "aB", "Ab", "1AB", "A-B", "AB ", "A\x1F" "B", "AB\x1F", "\x1F" "AB", " AB"};
+    put_header_03_04(l, format);
+    size_t before = below(3);
+    for (size_t i = 0; i < before; i++) {
+        put_segment(l, format);
+    }
+    switch (below(4)) {
+    case 0: /* no segment, or one empty */
+        if (l->length > l->body || one_in(2)) {
+            put(l, FS);
+        }
+        break;
+    case 1: /* the last isn't ended */
+        put_segment(l, format);
+        l->length -= 1;
+        break;
+    case 2:
+        put_string(l, format == 3 && one_in(2) ? "BIN" : tags[below(12)]);
+        if (one_in(2)) {
+            put_string(l, "\x1DX\x1FY");
+        }
+        put(l, FS);
+        break;
+    default: /* an element, but no tag */
+        put_string(l, "\x1D" "AB");
+        put(l, FS);
+        break;
+    }
+    if (one_in(3) && l->bytes[l->length - 1] == FS && l->length > l->body) {
+        put_segment(l, format);
+    }
+}
+
+static void miss_11_in_05_06(label *l, unsigned format)
+{
+    static const char *const wrong_05[] = {"", "1", "12", "A12", "1A2", "AB", " 12", "/12", "1:3"};
+    static const char *const wrong_06[] = {
+        "", "1", "A", "12A", "123", "1234A1", "a1", "1a1", " A1", "123A", "1@2", "[A1", "0000A1"};
+    put_indicator(l, format);
+    put(l, GS);
+    l->body = l->length;
+    size_t count = between(1, 3), odd = below(count);
+    for (size_t i = 0; i < count; i++) {
+        if (i > 0) {
+            put(l, GS);
+        }
+        if (i == odd) {
+            put_string(l, format == 5 ? wrong_05[below(9)] : wrong_06[below(13)]);
+        } else {
+            put_element(l, format);
+        }
+    }
+}
+
+static void miss_11(label *l, size_t *place)
+{
+    bool is_first = !one_in(3);
+    good_prefix(l, is_first ? 0 : between(1, 2));
+    *place = l->length;
+    unsigned format = (unsigned)between(is_first ? 2 : 3, 6);
+    if (is_first && one_in(2)) {
+        format = 1;
+    }
+    switch (format) {
+    case 1: miss_11_in_01(l); break;
+    case 2: put_indicator(l, 2); return;
+    case 3:
+    case 4: miss_11_in_03_04(l, format); break;
+    default: miss_11_in_05_06(l, format); break;
+    }
+    put(l, RS);
+    put_tail(l);
+}
+
+static void miss_12(label *l, size_t *place)
+{
+    good_prefix(l, below(3));
+    *place = l->length;
+    static const uint8_t formats[] = {3, 4, 5, 6, 7};
+    good_envelope(l, l->envelopes == 0 && one_in(3) ? 1 : formats[below(5)]);
+    l->length = one_in(2) ? l->length - 1 : some_length(l->body, l->length - 1);
+    size_t tail = below(5);
+    while (tail-- > 0) {
+        put(l, one_in(3) ? EOT : no_byte_of("\x1E"));
+    }
+}
+
+static void case_near_miss_read(void)
+{
+    static void (*const misses[])(label *, size_t *) = {
+        miss_2, miss_3, miss_4, miss_5, miss_6, miss_7, miss_8, miss_9, miss_10, miss_11, miss_12};
+    static const uint8_t draws[] = {2, 3, 4, 5, 6, 7, 8, 8, 8, 9, 9, 10, 10, 11, 11, 11, 11, 11, 12};
+    label *l = &the_label;
+    uint32_t number = draws[below(sizeof draws)];
+    size_t place = 0;
+    misses[number - 2](l, &place);
+    knowledge known = known_refusal(number, place);
+    compare_read(l->bytes, l->length, one_in(2) ? between(0, 40) : 400, &known);
+}
+
+/* ---- The limits of length and rows ---- */
+
+/* Ends a message with an envelope that makes it as long as wanted. */
+static void fill_to(label *l, size_t length)
+{
+    if (l->envelopes == 0 && one_in(4)) {
+        good_02(l, length - l->length - 2);
+        return;
+    }
+    if (one_in(3)) {
+        /* Indicator, two values of one byte, four digits, four GS; RS and EOT. */
+        size_t payload = length - l->length - 2 - 4 - 2 - 4 - 2;
+        char count[24];
+        snprintf(count, sizeof count, "%04zu", payload);
+        put_header_09(l, 1, 1, count);
+        while (payload-- > 0) {
+            put(l, byte_of_09());
+        }
+        note_row(l, 7, 9, l->body);
+        end_envelope(l);
+    } else {
+        good_07(l, length - l->length - 2 - 2);
+    }
+    put(l, EOT);
+}
+
+/* Answers whether it is good. */
+static bool long_message(label *l)
+{
+    size_t length = between(4095, 4098);
+    good_prefix(l, below(4));
+    fill_to(l, length);
+    return length <= MOST_BYTES;
+}
+
+static void case_length_limit_read(void)
+{
+    label *l = &the_label;
+    if (one_in(5)) { /* rubbish of these lengths */
+        size_t length = between(4095, 4098);
+        open_message(l);
+        l->length = one_in(2) ? 0 : l->length;
+        put_odd_bytes(l, length - l->length);
+        knowledge known = length > MOST_BYTES ? known_refusal(1, 4096) : nothing_known;
+        compare_read(l->bytes, l->length, some_table(10), &known);
+        return;
+    }
+    bool good = long_message(l);
+    if (one_in(4)) {
+        change(l);
+        compare_read(l->bytes, l->length, some_table(l->row_count), &nothing_known);
+    } else if (good) {
+        read_good(l, some_table(l->row_count));
+    } else {
+        knowledge known = known_refusal(1, 4096);
+        compare_read(l->bytes, l->length, some_table(l->row_count), &known);
+    }
+}
+
+/* A message with so many rows, by one of four ways, without its EOT. */
+static void message_of_rows(label *l, size_t row_count)
+{
+    good_prefix(l, one_in(2) ? 0 : 1);
+    size_t way = below(4);
+    if (way == 3) { /* many empty envelopes of 07 */
+        while (l->row_count + 2 < row_count) {
+            good_07(l, 0);
+        }
+        if (l->row_count + 2 > row_count) { /* one row too few is left: make it three */
+            l->length -= 3;
+            l->row_count -= 2;
+            l->envelopes -= 1;
+        }
+        if (row_count - l->row_count == 2) {
+            good_07(l, 0);
+            return;
+        }
+        put_indicator(l, 5);
+        put_string(l, "\x1D" "12A");
+        note_row(l, 3, 5, l->length - 3);
+        put_string(l, "\x1D" "34B");
+        note_row(l, 3, 5, l->length - 3);
+        end_envelope(l);
+        return;
+    }
+    if (way == 2) {
+        put_indicator(l, 6);
+        while (l->row_count < row_count) {
+            put(l, GS);
+            put(l, any_capital());
+            put(l, any_plain());
+            note_row(l, 3, 6, l->length - 2);
+        }
+        end_envelope(l);
+        return;
+    }
+    unsigned format = (unsigned)between(3, 4);
+    put_header_03_04(l, format);
+    put_tag(l, format);
+    bool has_element = false;
+    while (l->row_count < row_count) {
+        if (has_element && one_in(3)) {
+            put(l, US);
+            note_row(l, 6, format, l->length);
+        } else if (way == 1 && one_in(8)) {
+            put(l, FS);
+            put_tag(l, format);
+            has_element = false;
+        } else {
+            put(l, GS);
+            put_text(l, one_in(4) ? 1 : 0);
+            note_row(l, 5, format, l->length - (l->bytes[l->length - 1] == GS ? 0 : 1));
+            has_element = true;
+        }
+    }
+    put(l, FS);
+    end_envelope(l);
+}
+
+static void case_row_limit_read(void)
+{
+    label *l = &the_label;
+    size_t row_count = between(1023, 1026);
+    message_of_rows(l, row_count);
+    bool has_end = !one_in(6);
+    if (has_end) {
+        put(l, EOT);
+    }
+    size_t table_length = one_in(2) ? 4 * between(1022, 1027) : some_table(row_count);
+    knowledge known;
+    if (!has_end) {
+        known = known_refusal(4, l->length);
+    } else if (row_count > MOST_ROWS) {
+        known = known_refusal(13, 0);
+    } else {
+        read_good(l, table_length);
+        return;
+    }
+    compare_read(l->bytes, l->length, table_length, &known);
+}
+
+/* ---- Random bytes ---- */
+
+static void random_message(label *l)
+{
+    open_message(l);
+    size_t way = below(5);
+    if (way == 0) {
+        l->length = 0;
+    }
+    size_t length = one_in(3) ? below(8) : below(60);
+    while (length-- > 0) {
+        switch (way) {
+        case 0:
+        case 1: put(l, any_byte()); break;
+        case 2: put(l, one_of("\x04\x1C\x1D\x1E\x1F" "0123456789AB")); break;
+        case 3: put(l, one_of("\x1D\x1E\x1E\x04" "000567A1")); break;
+        default: put(l, odd_byte()); break;
+        }
+    }
+    if (way == 4) { /* an indicator where it is due */
+        if (l->length > 6) {
+            l->bytes[4] = '0';
+            l->bytes[5] = (uint8_t)between('1', '9');
+        }
+        if (one_in(2)) {
+            put_string(l, "\x1E\x04");
+        }
+    }
+}
+
+static void case_random_read(void)
+{
+    label *l = &the_label;
+    random_message(l);
+    compare_read(l->bytes, l->length, one_in(2) ? below(41) : 400, &nothing_known);
+}
+
+/* ---- Rows for the writer ---- */
+
+enum { DATA_ROOM = 20000, NUMBERS_ROOM = 4400 };
+
+typedef struct {
+    size_t data_length, rows_length;
+    size_t message_length; /* of the message that true rows have */
+    uint8_t data[DATA_ROOM];
+    uint32_t rows[NUMBERS_ROOM];
+} order;
+
+static order the_order;
+
+static void add_data(order *o, const uint8_t *bytes, size_t length)
+{
+    if (o->data_length + length > DATA_ROOM) {
+        fprintf(stderr, "the generator wants too much data\n");
+        exit(2);
+    }
+    if (length > 0) {
+        memcpy(o->data + o->data_length, bytes, length);
+    }
+    o->data_length += length;
+}
+
+static void add_odd_data(order *o, size_t length)
+{
+    while (length-- > 0) {
+        uint8_t byte = odd_byte();
+        add_data(o, &byte, 1);
+    }
+}
+
+/* Where the content stands in the data already, or at the end after adding what
+ * doesn't overlap with the data's last bytes. */
+static size_t overlapping_place(order *o, const uint8_t *content, size_t length)
+{
+    for (size_t at = 0; at < o->data_length; at++) {
+        size_t rest = o->data_length - at;
+        size_t common = rest < length ? rest : length;
+        if (memcmp(o->data + at, content, common) == 0) {
+            add_data(o, content + common, length - common);
+            return at;
+        }
+    }
+    add_data(o, content, length);
+    return o->data_length - length;
+}
+
+/* True rows: those of a label, with their contents relocated. */
+static void make_order(order *o, const label *l)
+{
+    size_t count = l->row_count;
+    o->data_length = 0;
+    o->rows_length = 4 * count;
+    o->message_length = l->length;
+    memcpy(o->rows, l->rows, 16 * count);
+    size_t way = below(4);
+    if (way == 0) { /* the message itself */
+        add_data(o, l->bytes, l->length);
+        return;
+    }
+    static size_t turn[LABEL_ROWS];
+    for (size_t i = 0; i < count; i++) {
+        turn[i] = i;
+    }
+    if (!one_in(4)) {
+        for (size_t i = count; i > 1; i--) {
+            size_t j = below(i), kept = turn[i - 1];
+            turn[i - 1] = turn[j];
+            turn[j] = kept;
+        }
+    }
+    add_odd_data(o, below(4));
+    for (size_t i = 0; i < count; i++) {
+        uint32_t *row = &o->rows[4 * turn[i]];
+        const uint8_t *content = l->bytes + row[2];
+        if (way == 1 && count < 200) {
+            row[2] = (uint32_t)overlapping_place(o, content, row[3]);
+        } else {
+            row[2] = (uint32_t)o->data_length;
+            add_data(o, content, row[3]);
+            if (way == 2) {
+                add_odd_data(o, below(3));
+            }
+        }
+    }
+    add_odd_data(o, one_in(2) ? 0 : below(6));
+    for (size_t i = 0; i < count; i++) { /* an empty stretch may be anywhere */
+        if (o->rows[4 * i + 3] == 0) {
+            o->rows[4 * i + 2] = (uint32_t)between(0, o->data_length);
+        }
+    }
+}
+
+/* Output lengths of every small size and around the needed one. */
+static size_t some_output(size_t needed)
+{
+    switch (below(8)) {
+    case 0: return needed - 1;
+    case 1: return needed + 1;
+    case 2: return below(needed);
+    case 3: return below(20);
+    case 4: return needed + between(2, 60);
+    default: return needed;
+    }
+}
+
+static void write_true(order *o)
+{
+    size_t output_length = some_output(o->message_length);
+    compare_write(o->data, o->data_length, o->rows, o->rows_length, output_length,
+                  output_length < o->message_length ? 22 : 0);
+}
+
+static void case_true_write(void)
+{
+    good_message(&the_label);
+    make_order(&the_order, &the_label);
+    write_true(&the_order);
+}
+
+static uint32_t odd_number(size_t around)
+{
+    switch (below(6)) {
+    case 0: return (uint32_t)below(12);
+    case 1: return 0xFFFFFFFFu - (uint32_t)below(8);
+    case 2: return 0x7FFFFFFFu + (uint32_t)below(3);
+    case 3: return (uint32_t)chance();
+    case 4: return (uint32_t)(between(around, around + 4));
+    default: return (uint32_t)below(around + 1);
+    }
+}
+
+static void drop_row(order *o, size_t row)
+{
+    memmove(o->rows + 4 * row, o->rows + 4 * row + 4, (o->rows_length - 4 * row - 4) * 4);
+    o->rows_length -= 4;
+}
+
+static void double_row(order *o, size_t row)
+{
+    memmove(o->rows + 4 * row + 4, o->rows + 4 * row, (o->rows_length - 4 * row) * 4);
+    o->rows_length += 4;
+}
+
+/* Spoils rows in one way; answers the number that must follow, if it is known. */
+static uint32_t spoil(order *o)
+{
+    size_t count = o->rows_length / 4;
+    if (count == 0) {
+        return 21;
+    }
+    size_t at = below(count);
+    uint32_t *row = &o->rows[4 * at];
+    switch (below(20)) {
+    case 0: /* one number changed by one */
+        row[below(4)] += one_in(2) ? 1u : 0xFFFFFFFFu;
+        return NOT_KNOWN;
+    case 1:
+        row[below(4)] = odd_number(o->data_length);
+        return NOT_KNOWN;
+    case 2:
+        drop_row(o, at);
+        return NOT_KNOWN;
+    case 3: { /* two rows swapped */
+        size_t other = one_in(2) ? (at + 1) % count : below(count);
+        for (size_t i = 0; i < 4; i++) {
+            uint32_t kept = row[i];
+            row[i] = o->rows[4 * other + i];
+            o->rows[4 * other + i] = kept;
+        }
+        return NOT_KNOWN;
+    }
+    case 4:
+        double_row(o, at);
+        return NOT_KNOWN;
+    case 5:
+        row[0] = (uint32_t)below(9);
+        return NOT_KNOWN;
+    case 6:
+        row[1] = (uint32_t)below(11);
+        return NOT_KNOWN;
+    case 7: { /* another format for all rows of one format */
+        uint32_t before = row[1], after = (uint32_t)between(1, 9);
+        for (size_t i = 0; i < count; i++) {
+            if (o->rows[4 * i + 1] == before) {
+                o->rows[4 * i + 1] = after;
+            }
+        }
+        return before == after ? NOT_KNOWN : 21; /* the indicator disagrees */
+    }
+    case 8: /* a stretch past the end */
+        if (one_in(2)) {
+            row[2] = (uint32_t)(o->data_length - row[3] + between(1, 3));
+        } else {
+            row[3] = (uint32_t)(o->data_length - row[2] + between(1, 3));
+        }
+        return 20;
+    case 9: /* a sum that wraps in 32 bits */
+        if (one_in(2) || row[3] == 0) {
+            row[2] = 0xFFFFFFFFu - (uint32_t)below(4);
+            row[3] = 0u - row[2] + (uint32_t)below(o->data_length < 9 ? 1 : 8);
+        } else { /* start + length wraps to what is inside */
+            row[2] = 0u - (uint32_t)between(1, row[3]);
+        }
+        return 20;
+    case 10: /* an empty stretch that starts past the end */
+        row[2] = (uint32_t)(o->data_length + between(1, 3));
+        row[3] = 0;
+        return 20;
+    case 11: /* no multiple of four */
+        if (one_in(2)) {
+            o->rows_length -= between(1, 3);
+        } else {
+            size_t more = between(1, 3);
+            while (more-- > 0) {
+                o->rows[o->rows_length++] = (uint32_t)below(8);
+            }
+        }
+        return 20;
+    case 12: /* more than 1,024 rows */
+        if (one_in(8)) {
+            size_t wanted = 4 * between(1025, 1028);
+            for (size_t i = o->rows_length; i < wanted; i++) {
+                o->rows[i] = o->rows[i % (4 * count)];
+            }
+            o->rows_length = wanted;
+            return 20;
+        }
+        o->rows_length = 0;
+        return 21; /* no rows at all */
+    case 13:
+    case 14: /* a content changed */
+        if (o->data_length > 0) {
+            size_t byte = row[3] > 0 ? row[2] + below(row[3]) : below(o->data_length);
+            if (byte < o->data_length) {
+                o->data[byte] = odd_byte();
+            }
+        }
+        return NOT_KNOWN;
+    case 15: /* rows at the end or at the start are missing */
+        if (one_in(2)) {
+            o->rows_length = 4 * at;
+        } else {
+            size_t dropped = at;
+            while (dropped-- > 0) {
+                drop_row(o, 0);
+            }
+        }
+        return NOT_KNOWN;
+    case 16: { /* a second message's rows follow */
+        good_message(&second_label);
+        size_t base = o->data_length;
+        add_data(o, second_label.bytes, second_label.length);
+        for (size_t i = 0; i < second_label.row_count; i++) {
+            for (size_t j = 0; j < 4; j++) {
+                o->rows[o->rows_length++] = second_label.rows[4 * i + j] + (j == 2 ? (uint32_t)base : 0);
+            }
+        }
+        o->message_length += second_label.length;
+        return NOT_KNOWN;
+    }
+    case 17: /* another row's content */
+        row[2] = o->rows[4 * below(count) + 2];
+        row[3] = o->rows[4 * below(count) + 3];
+        return NOT_KNOWN;
+    case 18: { /* rows of small random numbers */
+        size_t rows_drawn = between(1, 6);
+        o->rows_length = 0;
+        while (rows_drawn-- > 0) {
+            o->rows[o->rows_length++] = (uint32_t)below(9);
+            o->rows[o->rows_length++] = (uint32_t)below(11);
+            uint32_t start = (uint32_t)between(0, o->data_length);
+            o->rows[o->rows_length++] = start;
+            o->rows[o->rows_length++] = (uint32_t)between(0, o->data_length - start);
+        }
+        return NOT_KNOWN;
+    }
+    default: /* an empty content, or a much longer one */
+        if (one_in(2)) {
+            row[3] = 0;
+        } else {
+            row[2] = 0;
+            row[3] = (uint32_t)o->data_length;
+        }
+        return NOT_KNOWN;
+    }
+}
+
+static void case_false_write(void)
+{
+    order *o = &the_order;
+    good_message(&the_label);
+    make_order(o, &the_label);
+    uint32_t known = spoil(o);
+    if (one_in(4)) {
+        spoil(o);
+        known = NOT_KNOWN;
+    }
+    compare_write(o->data, o->data_length, o->rows, o->rows_length, some_output(o->message_length),
+                  known);
+}
+
+static void case_limit_write(void)
+{
+    order *o = &the_order;
+    label *l = &the_label;
+    if (one_in(2)) {
+        bool good = long_message(l);
+        make_order(o, l);
+        if (good) {
+            write_true(o);
+        } else { /* 21 stands before 22 */
+            compare_write(o->data, o->data_length, o->rows, o->rows_length,
+                          some_output(o->message_length), 21);
+        }
+    } else {
+        size_t row_count = between(1023, 1026);
+        message_of_rows(l, row_count);
+        put(l, EOT);
+        make_order(o, l);
+        if (row_count <= MOST_ROWS) {
+            write_true(o);
+        } else {
+            compare_write(o->data, o->data_length, o->rows, o->rows_length,
+                          some_output(o->message_length), 20);
+        }
+    }
+}
+
+/* ---- Parts ---- */
+
+static void compare_parts(const label *l, const knowledge *known)
+{
+    size_t count = l->row_count;
+    compare_part(l->bytes, l->length, below(count), known);
+    compare_part(l->bytes, l->length, one_in(2) ? count - 1 : 0, known);
+    compare_part(l->bytes, l->length, count, known);
+    static const size_t far[] = {1023, 1024, 1025, 4096, 0x3FFFFFFF, 0xFFFFFFFF, SIZE_MAX / 4,
+                                 SIZE_MAX / 4 + 1, SIZE_MAX / 2 + 1, SIZE_MAX - 1, SIZE_MAX};
+    compare_part(l->bytes, l->length, far[below(sizeof far / sizeof far[0])], known);
+}
+
+static void case_parts(void)
+{
+    label *l = &the_label;
+    knowledge known = nothing_known;
+    switch (below(40)) {
+    case 0: /* refused with 13, or 1,024 rows */
+        message_of_rows(l, between(1023, 1026));
+        put(l, EOT);
+        if (l->row_count <= MOST_ROWS) {
+            known = known_good(l);
+        }
+        compare_parts(l, &known);
+        break;
+    case 1:
+        if (long_message(l)) {
+            known = known_good(l);
+        }
+        compare_parts(l, &known);
+        break;
+    case 2:
+        random_message(l);
+        l->row_count = 1;
+        compare_parts(l, &known);
+        break;
+    default:
+        good_message(l);
+        if (one_in(3)) {
+            change(l);
+        } else {
+            known = known_good(l);
+        }
+        compare_parts(l, &known);
+        break;
+    }
+}
+
+/* ---- The run ---- */
+
+static void run_case(void)
+{
+    static void (*const cases[CASE_KINDS])(void) = {
+        case_good_read, case_changed_read, case_near_miss_read, case_length_limit_read,
+        case_row_limit_read, case_random_read, case_true_write, case_false_write,
+        case_limit_write, case_parts};
+
+    chance_state = run_seed;
+    chance_state = chance() ^ (case_number * 0xD1342543DE82EF95u);
+    size_t draw = below(1000);
+    case_kind = 0;
+    while (draw >= case_kinds[case_kind].weight) {
+        draw -= case_kinds[case_kind].weight;
+        case_kind++;
+    }
+    cases_run[case_kind]++;
+    cases[case_kind]();
+}
+
+/* Empty input behind null pointers, which the reference allows. */
+static bool reference_allows_null(void)
+{
+    return reference_read(NULL, 0, NULL, 0).number == 2 &&
+           reference_write(NULL, 0, NULL, 0, NULL, 0).number == 21 &&
+           reference_part_of(NULL, 0, 0).length == 0;
+}
+
+static bool parse(const char *text, uint64_t *value)
+{
+    char *end;
+    unsigned long long parsed = strtoull(text, &end, 0);
+    *value = parsed;
+    return text[0] != 0 && *end == 0;
+}
+
+int main(int argc, char **argv)
+{
+    uint64_t cases = 1000000, first = 0;
+    run_seed = 15434;
+    if (argc > 4 || (argc > 1 && !parse(argv[1], &run_seed)) ||
+        (argc > 2 && !parse(argv[2], &cases)) || (argc > 3 && !parse(argv[3], &first))) {
+        fprintf(stderr, "differential [SEED [CASES [FIRST]]]\n");
+        return 2;
+    }
+    printf("seed %llu, %llu cases\n", (unsigned long long)run_seed, (unsigned long long)cases);
+    fflush(stdout);
+    make_pattern();
+    if (!reference_allows_null()) {
+        printf("the reference errs on empty input\n");
+        return 1;
+    }
+
+    for (uint64_t i = 0; i < cases; i++) {
+        case_number = first + i;
+        run_case();
+    }
+
+    printf("cases of each kind:\n");
+    for (unsigned kind = 0; kind < CASE_KINDS; kind++) {
+        printf("%10llu %s\n", (unsigned long long)cases_run[kind], case_kinds[kind].name);
+    }
+    printf("compared: %llu readings, %llu writings, %llu parts; %llu written back, %llu read back\n",
+           (unsigned long long)reads, (unsigned long long)writes, (unsigned long long)parts,
+           (unsigned long long)written_back, (unsigned long long)read_back);
+    printf("how often each number was answered:\n");
+    bool all_seen = true;
+    for (unsigned number = 0; number <= 22; number++) {
+        if (number >= 15 && number < 20) {
+            continue;
+        }
+        printf("%10llu %u\n", (unsigned long long)numbers_seen[number], number);
+        all_seen = all_seen && numbers_seen[number] > 0;
+    }
+    if (!all_seen && cases >= 100000) {
+        printf("DIFFERENCE: a number was never answered\n");
+        return 1;
+    }
+    printf("no difference\n");
+    return 0;
+}

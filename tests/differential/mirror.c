@@ -1,0 +1,258 @@
+/* The reference posing as the library, to show that the differential test can
+ * fail. With SPOILT 0 it is the reference itself and no difference may be found;
+ * with each other number it has the one error named here, and one must be.
+ *
+ * SPOILT 1: RS is looked for inside a counted payload
+ * SPOILT 2: an empty field is dropped
+ * SPOILT 3: EOT in a text body is taken as the end of the message
+ * SPOILT 4: rows are filled before the last envelope is known to be good
+ * SPOILT 5: a count is written without its leading zeros
+ * SPOILT 6: the place of 5 is that of the EOT
+ * SPOILT 7: 22 stands before 21
+ * SPOILT 8: one byte behind the output is overwritten
+ * SPOILT 9: the last byte of the guard behind the output is overwritten
+ * SPOILT 10: one number before the table is overwritten
+ * SPOILT 11: a part's row is counted from 1
+ * SPOILT 12: numbers past the last row are cleared
+ * SPOILT 13: 14 stands before 13
+ * SPOILT 14: 4,096 bytes are too many
+ * SPOILT 15: the end of a stretch wraps in 32 bits
+ * SPOILT 16: the message is changed
+ * SPOILT 17: one digit and the end is 4
+ * SPOILT 18: an empty piece's row starts at 0
+ * SPOILT 19: BIN is refused in format 04
+ * SPOILT 20: a refused message's part is all of it
+ * SPOILT 21: bytes past the count are cleared
+ * SPOILT 22: a refused writing changes a byte
+ * SPOILT 23: a count wraps in 32 bits
+ * SPOILT 24: room for one row more than needed is asked for
+ * SPOILT 25: the rows are changed
+ * SPOILT 26: every good message of format 02 is refused
+ * SPOILT 27: no rows at all are written as an empty message
+ * SPOILT 28: the EOT is looked for behind the message
+ */
+#include "zielorad.h"
+
+#include "../reference/reference.h"
+
+#include <stdbool.h>
+#include <string.h>
+
+#ifndef SPOILT
+#define SPOILT 0
+#endif
+
+enum { EOT = 0x04, RS = 0x1E, GS = 0x1D, GUARD = 64, AMPLE = 4096 };
+
+static zielorad_reading refusal(uint32_t number, uint32_t place)
+{
+    zielorad_reading answer = {number, place, 0, 0};
+    return answer;
+}
+
+/* A reading with ample room, altered as an error of the reader would. */
+static zielorad_reading read_spoilt(const uint8_t *message, size_t length, uint32_t *rows)
+{
+    reference_reading read = reference_read(message, length, rows, AMPLE);
+    zielorad_reading answer = {read.number, read.place, read.envelopes, read.rows};
+    uint32_t indicator = 0, kept = 0;
+
+    if (SPOILT == 3 && read.number == 10 && length > 6 && message[5] == '2') {
+        const uint8_t *end = memchr(message + 4, EOT, length - 4);
+        if (end != NULL) {
+            reference_reading cut = reference_read(message, (size_t)(end - message), rows, AMPLE);
+            zielorad_reading cut_answer = {cut.number, cut.place, cut.envelopes, cut.rows};
+            return cut_answer;
+        }
+    }
+    if (SPOILT == 28 && read.number == 4 && message[length] == EOT) {
+        read = reference_read(message, length + 1, rows, AMPLE);
+        zielorad_reading overrun = {read.number, read.place, read.envelopes, read.rows};
+        return overrun;
+    }
+    if (SPOILT == 6 && read.number == 5) {
+        answer.place -= 1;
+    }
+    if (SPOILT == 14 && length == 4096) {
+        return refusal(1, 4096);
+    }
+    if (SPOILT == 17 && read.number == 3 && read.place > 4 && read.place + 1 == length &&
+        message[read.place] >= '0' && message[read.place] <= '9') {
+        return refusal(4, (uint32_t)length);
+    }
+    if (SPOILT == 23 && read.number == 9) {
+        /* The same message with the count's lower 32 bits, as wide as before. */
+        static uint8_t copy[4096];
+        memcpy(copy, message, length);
+        size_t at = read.place, separators = 0;
+        while (separators < 3) {
+            separators += copy[at++] == GS;
+        }
+        size_t end = at;
+        uint32_t count = 0;
+        while (copy[end] != GS) {
+            count = count * 10 + (uint32_t)(copy[end++] - '0');
+        }
+        while (end > at) {
+            copy[--end] = (uint8_t)('0' + count % 10);
+            count /= 10;
+        }
+        read = reference_read(copy, length, rows, AMPLE);
+        zielorad_reading wrapped = {read.number, read.place, read.envelopes, read.rows};
+        return wrapped;
+    }
+    if (answer.number != 0) {
+        return answer;
+    }
+
+    for (uint32_t i = 0; i < read.rows; i++) {
+        uint32_t *row = rows + 4 * i;
+        if (row[0] == 1) {
+            indicator = row[2];
+        }
+        if (SPOILT == 1 && row[0] == 7 && row[1] == 9 &&
+            memchr(message + row[2], RS, row[3]) != NULL) {
+            return refusal(9, indicator);
+        }
+        if (SPOILT == 19 && row[0] == 4 && row[1] == 4 && row[3] == 3 &&
+            memcmp(message + row[2], "BIN", 3) == 0) {
+            return refusal(11, indicator);
+        }
+        if (SPOILT == 26 && row[1] == 2) {
+            return refusal(11, indicator);
+        }
+        if (SPOILT == 18 && row[3] == 0) {
+            row[2] = 0;
+        }
+        if (SPOILT == 2 && row[0] == 3 && row[3] == 0) {
+            continue;
+        }
+        memmove(rows + 4 * kept, row, 16);
+        kept++;
+    }
+    answer.rows = kept;
+    return answer;
+}
+
+zielorad_reading zielorad_read(const uint8_t *message, size_t message_length,
+                               uint32_t *table, size_t table_length)
+{
+    static uint32_t rows[AMPLE];
+    zielorad_reading answer = read_spoilt(message, message_length, rows);
+    size_t room = table_length / 4;
+
+    if (SPOILT == 13 && answer.number == 13 && room < 1024) {
+        return refusal(14, 0);
+    }
+    if (SPOILT == 16 && answer.number == 10) {
+        ((uint8_t *)message)[answer.place] = '0' + 1;
+    }
+    if (SPOILT == 4 && answer.number >= 3 && answer.number <= 12 && answer.place > 4 && room > 0) {
+        uint32_t first[4] = {1, (uint32_t)(message[5] - '0'), 4, 2};
+        memcpy(table, first, sizeof first);
+    }
+    if (SPOILT == 24 && answer.number == 0 && answer.rows == room) {
+        return refusal(14, 0);
+    }
+    if (answer.number == 0 && answer.rows > room) {
+        return refusal(14, 0);
+    }
+    if (answer.number != 0) {
+        return answer;
+    }
+    if (table_length > 0) {
+        memcpy(table, rows, (size_t)answer.rows * 16);
+    }
+    if (SPOILT == 10) {
+        table[-1] = 0;
+    }
+    if (SPOILT == 12) {
+        for (size_t i = 4 * (size_t)answer.rows; i < table_length; i++) {
+            table[i] = 0;
+        }
+    }
+    return answer;
+}
+
+/* Removes the leading zeros of every count of a written message. */
+static uint32_t without_zeros(uint8_t *output, uint32_t count)
+{
+    static uint32_t rows[AMPLE];
+    reference_reading read = reference_read(output, count, rows, AMPLE);
+    for (uint32_t i = read.rows; i-- > 3;) {
+        const uint32_t *row = rows + 4 * i;
+        if (row[1] == 9 && row[0] == 7) {
+            uint32_t start = row[-4 + 2], length = row[-4 + 3];
+            while (length > 1 && output[start] == '0') {
+                memmove(output + start, output + start + 1, count - start - 1);
+                count--;
+                length--;
+            }
+        }
+    }
+    return count;
+}
+
+zielorad_written zielorad_write(const uint8_t *data, size_t data_length,
+                                const uint32_t *rows, size_t rows_length,
+                                uint8_t *output, size_t output_length)
+{
+    reference_written written = reference_write(data, data_length, rows, rows_length,
+                                                output, output_length);
+    zielorad_written answer = {written.number, written.count};
+
+    if (SPOILT == 5 && answer.number == 0) {
+        answer.count = without_zeros(output, answer.count);
+    }
+    if (SPOILT == 7 && answer.number == 21) {
+        size_t needed = 4;
+        for (size_t i = 0; i < rows_length; i += 4) {
+            needed += rows[i + 3];
+        }
+        if (output_length < needed) {
+            answer.number = 22;
+        }
+    }
+    if (SPOILT == 8 && answer.number == 0) {
+        output[output_length] = 0;
+    }
+    if (SPOILT == 9 && answer.number == 0) {
+        output[output_length + GUARD - 1] = 0;
+    }
+    if (SPOILT == 15 && answer.number == 20 && rows_length % 4 == 0 && rows_length <= 4096) {
+        bool inside = true;
+        for (size_t i = 0; i < rows_length; i += 4) {
+            inside = inside && (uint32_t)(rows[i + 2] + rows[i + 3]) <= data_length;
+        }
+        if (inside) {
+            answer.number = 21;
+        }
+    }
+    if (SPOILT == 21 && answer.number == 0) {
+        for (size_t i = answer.count; i < output_length; i++) {
+            output[i] = 0;
+        }
+    }
+    if (SPOILT == 22 && answer.number != 0 && output_length > 0) {
+        output[0] = '[';
+    }
+    if (SPOILT == 25 && answer.number == 0) {
+        ((uint32_t *)rows)[2] = 4;
+    }
+    if (SPOILT == 27 && rows_length == 0 && output_length >= 5) {
+        memcpy(output, "[)>\x1E\x04", 5);
+        answer.number = 0;
+        answer.count = 5;
+    }
+    return answer;
+}
+
+zielorad_part zielorad_part_of(const uint8_t *message, size_t message_length, size_t row)
+{
+    reference_part found = reference_part_of(message, message_length, SPOILT == 11 ? row - 1 : row);
+    zielorad_part answer = {found.start, found.length};
+    if (SPOILT == 20 && reference_read(message, message_length, NULL, 0).number != 14) {
+        answer.length = message_length;
+    }
+    return answer;
+}
