@@ -1,0 +1,275 @@
+/* The fuzz harness: each input is a call of every exported function, beside the reference. tests/fuzz/run builds and runs it,
+ * docs/FUZZING.md says what came of it.
+ *
+ * An input is a head of twelve bytes, which chooses sizes and changes, and behind it either a label or rows and their data. Whatever a
+ * call is lent stands against a page that can't be touched, in front of it or behind it, so that a byte read or written outside ends the
+ * run. The reference is lent memory that looks the same; after each call all of it is compared, what was lent and what lies around. */
+#define _GNU_SOURCE
+#include "../../include/zielorad.h"
+#include "../reference/reference.h"
+
+#include <stdbool.h>
+#include <stdio.h>
+#include <stdlib.h>
+#include <string.h>
+#include <sys/mman.h>
+
+enum { PAGE = 4096, LONGEST = 4096, MOST_NUMBERS = 4096, HEAD = 12, ROW = 6, MOST_ROWS_TRIED = 1100 };
+
+static void fail(const char *text)
+{
+    fprintf(stderr, "fuzz: %s\n", text);
+    abort();
+}
+
+static void check(bool holds, const char *text)
+{
+    if (!holds) {
+        fail(text);
+    }
+}
+
+/* ---- Lent memory ---- */
+
+/* Two stretches of pages, each between two pages that can't be touched. */
+typedef struct {
+    uint8_t *ours, *theirs;
+    size_t capacity, offset, bytes;
+} lent;
+
+static lent message_lent, table_lent, rows_lent, output_lent;
+static bool at_the_end; /* lent memory stands against the page behind it, or else against the one in front */
+static bool null_if_empty;
+
+static uint8_t *guarded(size_t capacity)
+{
+    uint8_t *pages = mmap(NULL, capacity + 2 * PAGE, PROT_READ | PROT_WRITE, MAP_PRIVATE | MAP_ANONYMOUS, -1, 0);
+    check(pages != MAP_FAILED, "no memory");
+    check(mprotect(pages, PAGE, PROT_NONE) == 0, "no guard in front");
+    check(mprotect(pages + PAGE + capacity, PAGE, PROT_NONE) == 0, "no guard behind");
+    return pages + PAGE;
+}
+
+static lent make_lent(size_t pages)
+{
+    lent made = {guarded(pages * PAGE), guarded(pages * PAGE), pages * PAGE, 0, 0};
+    return made;
+}
+
+/* Lends so many bytes, on both sides: those given, or paint. */
+static void lend(lent *l, size_t bytes, const void *content)
+{
+    check(bytes <= l->capacity, "the harness lends more than it has");
+    l->bytes = bytes;
+    l->offset = at_the_end ? l->capacity - bytes : 0;
+    memset(l->ours, 0xA5, l->capacity);
+    if (content != NULL && bytes != 0) {
+        memcpy(l->ours + l->offset, content, bytes);
+    }
+    memcpy(l->theirs, l->ours, l->capacity);
+}
+
+static void *our(const lent *l)
+{
+    return l->bytes == 0 && null_if_empty ? NULL : l->ours + l->offset;
+}
+
+static void *their(const lent *l)
+{
+    return l->bytes == 0 && null_if_empty ? NULL : l->theirs + l->offset;
+}
+
+static void compare_memory(const lent *l, const char *text)
+{
+    check(memcmp(l->ours, l->theirs, l->capacity) == 0, text);
+}
+
+/* ---- The calls, each beside the reference ---- */
+
+/* What the message holds, kept apart: a call must not change it. */
+static const uint8_t *message_given;
+
+static void message_is_unchanged(void)
+{
+    check(message_lent.bytes == 0 || memcmp(message_lent.ours + message_lent.offset, message_given, message_lent.bytes) == 0,
+          "what was lent to read was changed");
+    compare_memory(&message_lent, "memory around what was lent to read differs");
+}
+
+/* The message that is lent, into a table of so many numbers. */
+static zielorad_reading try_read(size_t table_length)
+{
+    lend(&table_lent, 4 * table_length, NULL);
+    zielorad_reading ours = zielorad_read(our(&message_lent), message_lent.bytes, our(&table_lent), table_length);
+    reference_reading theirs = reference_read(their(&message_lent), message_lent.bytes, their(&table_lent), table_length);
+    check(ours.number == theirs.number, "read: the number differs");
+    check(ours.place == theirs.place, "read: the place differs");
+    check(ours.envelopes == theirs.envelopes, "read: the envelopes differ");
+    check(ours.rows == theirs.rows, "read: the rows' count differs");
+    compare_memory(&table_lent, "read: the table or the memory around it differs");
+    message_is_unchanged();
+    return ours;
+}
+
+/* Rows over the message that is lent, into so many bytes. */
+static zielorad_written try_write(const uint32_t *rows, size_t rows_length, size_t output_length)
+{
+    lend(&rows_lent, 4 * rows_length, rows);
+    lend(&output_lent, output_length, NULL);
+    zielorad_written ours =
+        zielorad_write(our(&message_lent), message_lent.bytes, our(&rows_lent), rows_length, our(&output_lent), output_length);
+    reference_written theirs =
+        reference_write(their(&message_lent), message_lent.bytes, their(&rows_lent), rows_length, their(&output_lent), output_length);
+    check(ours.number == theirs.number, "write: the number differs");
+    check(ours.count == theirs.count, "write: the count differs");
+    compare_memory(&output_lent, "write: the output or the memory around it differs");
+    check(rows_length == 0 || memcmp(rows_lent.ours + rows_lent.offset, rows, 4 * rows_length) == 0, "write: the rows were changed");
+    compare_memory(&rows_lent, "write: the memory around the rows differs");
+    message_is_unchanged();
+    return ours;
+}
+
+static void try_part(size_t row)
+{
+    zielorad_part ours = zielorad_part_of(our(&message_lent), message_lent.bytes, row);
+    reference_part theirs = reference_part_of(their(&message_lent), message_lent.bytes, row);
+    check(ours.start == theirs.start, "part: the start differs");
+    check(ours.length == theirs.length, "part: the length differs");
+    message_is_unchanged();
+}
+
+/* ---- One input ---- */
+
+static uint32_t rows[4 * MOST_ROWS_TRIED + 4];
+
+typedef struct {
+    uint8_t flags, change;
+    uint16_t table_length, output_length, row;
+    uint32_t value;
+} head;
+
+static uint16_t two_bytes(const uint8_t *at)
+{
+    return (uint16_t)(at[0] | at[1] << 8);
+}
+
+/* Changes the rows of a good message in one place, and answers how many numbers they are then. */
+static size_t change_rows(const head *h, size_t count)
+{
+    size_t row = h->row % count;
+    uint32_t *numbers = &rows[4 * row];
+    switch (h->change % 8) {
+    default: /* another kind, format, start or length */
+        numbers[h->change % 4] = h->value;
+        return 4 * count;
+    case 4: /* one to three numbers are missing */
+        return 4 * count - 1 - h->value % 3;
+    case 5: { /* two rows change places */
+        uint32_t kept[4];
+        uint32_t *other = &rows[4 * (h->value % count)];
+        memcpy(kept, numbers, sizeof kept);
+        memmove(numbers, other, sizeof kept);
+        memcpy(other, kept, sizeof kept);
+        return 4 * count;
+    }
+    case 6: /* a row is missing */
+        memmove(numbers, numbers + 4, 16 * (count - row - 1));
+        return 4 * (count - 1);
+    case 7: /* a row stands twice */
+        memmove(numbers + 4, numbers, 16 * (count - row));
+        return 4 * (count + 1);
+    }
+}
+
+/* A label: read with the table chosen and with ample room; if it is good, written back, as it is and with a change; parts of it. */
+static void try_label(const head *h, const uint8_t *label, size_t length)
+{
+    message_given = label;
+    lend(&message_lent, length, label);
+    try_read(h->table_length);
+    zielorad_reading reading = try_read(MOST_NUMBERS);
+    try_part(0);
+    try_part(h->row);
+    try_part((size_t)0 - 1);
+    if (reading.number != 0) {
+        return;
+    }
+    try_part(reading.rows - 1);
+    try_part(reading.rows);
+
+    size_t numbers = 4 * (size_t)reading.rows;
+    memcpy(rows, table_lent.ours + table_lent.offset, 4 * numbers);
+    zielorad_written written = try_write(rows, numbers, LONGEST);
+    check(written.number == 0 && written.count == length, "write: a good message isn't written back");
+    check(memcmp(output_lent.ours + output_lent.offset, label, length) == 0, "write: another message is written back");
+    try_write(rows, numbers, h->output_length);
+    try_write(rows, change_rows(h, reading.rows), h->output_length);
+}
+
+/* Rows of six bytes (kind, format, start, length), the last of them as often as the head's value says, and the rest is their data. */
+static void try_rows(const head *h, const uint8_t *bytes, size_t length)
+{
+    if (length == 0) {
+        return;
+    }
+    size_t count = bytes[0];
+    bytes++;
+    length--;
+    if (count > length / ROW) {
+        count = length / ROW;
+    }
+    for (size_t i = 0; i < count; i++) {
+        rows[4 * i] = bytes[ROW * i];
+        rows[4 * i + 1] = bytes[ROW * i + 1];
+        rows[4 * i + 2] = two_bytes(bytes + ROW * i + 2);
+        rows[4 * i + 3] = two_bytes(bytes + ROW * i + 4);
+    }
+    size_t given = count;
+    if (h->flags & 8 && count > 0) {
+        for (size_t more = h->value % MOST_ROWS_TRIED; more > 0 && count < MOST_ROWS_TRIED; more--) {
+            memcpy(&rows[4 * count], &rows[4 * (given - 1)], 16);
+            count++;
+        }
+    }
+    message_given = bytes + ROW * given;
+    lend(&message_lent, length - ROW * given, message_given);
+    zielorad_written written = try_write(rows, 4 * count + h->change % 4, h->output_length);
+    written = try_write(rows, 4 * count, LONGEST);
+    if (written.number == 0) {
+        /* what is written is read, and has as many rows */
+        static uint8_t label[LONGEST];
+        memcpy(label, output_lent.ours + output_lent.offset, written.count);
+        message_given = label;
+        lend(&message_lent, written.count, label);
+        zielorad_reading reading = try_read(MOST_NUMBERS);
+        check(reading.number == 0 && reading.rows == count, "read: what was written isn't read");
+    }
+}
+
+int LLVMFuzzerInitialize(int *count, char ***words)
+{
+    (void)count;
+    (void)words;
+    message_lent = make_lent(4);
+    table_lent = make_lent(5);
+    rows_lent = make_lent(5);
+    output_lent = make_lent(2);
+    return 0;
+}
+
+int LLVMFuzzerTestOneInput(const uint8_t *bytes, size_t length)
+{
+    if (length < HEAD || length - HEAD > message_lent.capacity) {
+        return 0;
+    }
+    head h = {bytes[0], bytes[1], two_bytes(bytes + 2) % 4200, two_bytes(bytes + 4) % 4200, two_bytes(bytes + 6),
+              two_bytes(bytes + 8) | (uint32_t)two_bytes(bytes + 10) << 16};
+    at_the_end = (h.flags & 1) != 0;
+    null_if_empty = (h.flags & 2) != 0;
+    if (h.flags & 4) {
+        try_rows(&h, bytes + HEAD, length - HEAD);
+    } else {
+        try_label(&h, bytes + HEAD, length - HEAD);
+    }
+    return 0;
+}

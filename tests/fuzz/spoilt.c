@@ -1,0 +1,51 @@
+/* Wrong answers, to see that the harness finds them: the linker puts these functions in front of the library's (--wrap), and SPOILT
+ * chooses which of them is wrong. Each is right but in one corner. */
+#include "../../include/zielorad.h"
+
+zielorad_reading __real_zielorad_read(const uint8_t *message, size_t message_length, uint32_t *table, size_t table_length);
+zielorad_written __real_zielorad_write(const uint8_t *data, size_t data_length, const uint32_t *rows, size_t rows_length, uint8_t *output,
+                                       size_t output_length);
+zielorad_part __real_zielorad_part_of(const uint8_t *message, size_t message_length, size_t row);
+
+zielorad_reading __wrap_zielorad_read(const uint8_t *message, size_t message_length, uint32_t *table, size_t table_length)
+{
+    zielorad_reading answer = __real_zielorad_read(message, message_length, table, table_length);
+    if (SPOILT == 1 && answer.number == 9) {
+        answer.place++; /* the payload's fault, at another place */
+    }
+    if (SPOILT == 2 && answer.number == 14 && answer.place == 0 && table_length > 8) {
+        table[8] = 1; /* a row filled before the room is known to be there */
+    }
+    if (SPOILT == 3 && answer.number == 0 && answer.envelopes == 7) {
+        answer.envelopes = 6; /* one envelope forgotten, in labels of seven */
+    }
+    if (SPOILT == 8 && answer.number == 0 && table[1] == 9 && table[15] > 12) {
+        answer = (zielorad_reading){8, 4, 0, 0}; /* a count of 13 digits or more, taken for a bad header */
+    }
+    return answer;
+}
+
+zielorad_written __wrap_zielorad_write(const uint8_t *data, size_t data_length, const uint32_t *rows, size_t rows_length, uint8_t *output,
+                                       size_t output_length)
+{
+    zielorad_written answer = __real_zielorad_write(data, data_length, rows, rows_length, output, output_length);
+    if (SPOILT == 4 && answer.number == 22) {
+        answer.number = 21; /* no room, taken for no such label */
+    }
+    if (SPOILT == 5 && answer.number == 0 && answer.count < output_length) {
+        output[answer.count] = 0; /* one byte behind the label */
+    }
+    return answer;
+}
+
+zielorad_part __wrap_zielorad_part_of(const uint8_t *message, size_t message_length, size_t row)
+{
+    zielorad_part answer = __real_zielorad_part_of(message, message_length, row);
+    if (SPOILT == 6 && answer.length == 0) {
+        answer.start = 0; /* an empty row's place forgotten */
+    }
+    if (SPOILT == 7 && message_length > 0 && message[message_length] == 0) {
+        answer.length = 0; /* a byte read behind the message */
+    }
+    return answer;
+}
