@@ -13,7 +13,7 @@ pub(crate) fn judge_body(m: &[u8], at: usize, k: Kind, before: usize) -> Found
     requires { ⌜ (before ≤ 2) × (at ≤ length (now m)) ⌝ }
     ensures { λ r. ⌜ r ≡ bodyFound k before (now (m .entry)) at ⌝ }
 {
-    let end = leaves::find(m, at, RS);
+    let end = leaves::find_far(m, at, RS);
     if m.len() <= end {
         return Found::Refused(Reason::NoRecordSeparator);
     }

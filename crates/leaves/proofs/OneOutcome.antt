@@ -5,6 +5,7 @@ use contract.Lifetimes.{Lfts}
 use Rattle.leaves.proofs.in_class.Reads as in-class
 use Rattle.leaves.proofs.all_in.Reads as all-in
 use Rattle.leaves.proofs.find.Reads as find
+use Rattle.leaves.proofs.find_far.Reads as find-far
 use Rattle.leaves.proofs.tally.Reads as tally
 
 pub in-class-once : (κs : Lfts 0) (a : _) (r r′ : _) (s s′ : _) → in-class.Learnt κs a r s → in-class.Learnt κs a r′ s′ → r ≡ r′
@@ -15,6 +16,9 @@ all-in-once κs a r r′ s s′ one two = one ∙ sym two
 
 pub find-once : (κs : Lfts 1) (a : _) (r r′ : _) (s s′ : _) → find.Learnt κs a r s → find.Learnt κs a r′ s′ → r ≡ r′
 find-once κs a r r′ s s′ one two = one ∙ sym two
+
+pub find-far-once : (κs : Lfts 1) (a : _) (r r′ : _) (s s′ : _) → find-far.Learnt κs a r s → find-far.Learnt κs a r′ s′ → r ≡ r′
+find-far-once κs a r r′ s s′ one two = one ∙ sym two
 
 pub tally-once : (κs : Lfts 1) (a : _) (r r′ : _) (s s′ : _) → tally.Learnt κs a r s → tally.Learnt κs a r′ s′ → r ≡ r′
 tally-once κs a r r′ s s′ one two = one ∙ sym two

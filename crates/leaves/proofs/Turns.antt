@@ -1,14 +1,17 @@
 -- One turn of a loop over bytes: what a test of all, a search and a tally say of the bytes from an index on, by the byte at the index and those behind it.
 use Prim.Native.Nat.{ℕ, zero, suc, _+_, _-_, _≤_, _<_}
 use mathlib.Core.Path.{_≡_, refl, sym, ap, _∙_}
-use mathlib.Core.Bool.{Bool, true, false, _&&_, cond}
-use mathlib.Core.List.{List, [], _∷_}
+use mathlib.Core.Bool.{Bool, true, false, not, _&&_, cond}
+use mathlib.Core.List.{List, [], _∷_, _++_}
 use native.Mathlib.Omega.{arith}
 use native.Mathlib.Numerals.{add-one}
 use borrow.Author.Tests.{eq-eqb, ne-eqb}
-use lib.ListN.{length, getD, take, drop, length-drop}
-use lib.Seq.{drop-cons, take-all}
+use lib.Dec.{eqb}
+use mir.Val.{boolByte}
+use lib.ListN.{length, getD, take, drop, length-drop, length-take, take-append-drop}
+use lib.Seq.{drop-cons, take-all, drop-drop}
 use Rattle.label.specs.Bytes.{Bytes, every}
+use Rattle.label.proofs.Tests.{both, not-true}
 use Rattle.leaves.specs.Seek.{seek, tallyOf}
 
 pub drop-step : (s : Bytes) (i : ℕ) → i < length s → drop i s ≡ getD s i 0 ∷ drop (i + 1) s
@@ -43,11 +46,17 @@ seek-on c s i inside not = ap (seek c) (drop-step s i inside) ∙ ap (λ t. cond
 pub seek-past : (c : ℕ) (s : Bytes) (i : ℕ) → length s ≤ i → seek c (drop i s) ≡ 0
 seek-past c s i past = ap (seek c) (drop-past s i past)
 
-pub tally-here : (c : ℕ) (s : Bytes) (i : ℕ) → i < length s → getD s i 0 ≡ c → tallyOf c (drop i s) ≡ suc (tallyOf c (drop (i + 1) s))
-tally-here c s i inside is = ap (tallyOf c) (drop-step s i inside) ∙ ap (λ t. cond t (suc (tallyOf c (drop (i + 1) s))) (tallyOf c (drop (i + 1) s))) (eq-eqb _ c is)
+-- a byte counts 1 where it is c, and 0 elsewhere
+pub byte-small : (t : Bool) → boolByte t ≤ 1
+byte-small true = omega arith
+byte-small false = omega arith
 
-pub tally-on : (c : ℕ) (s : Bytes) (i : ℕ) → i < length s → (getD s i 0 ≡ c → ⊥) → tallyOf c (drop i s) ≡ tallyOf c (drop (i + 1) s)
-tally-on c s i inside not = ap (tallyOf c) (drop-step s i inside) ∙ ap (λ t. cond t (suc (tallyOf c (drop (i + 1) s))) (tallyOf c (drop (i + 1) s))) (ne-eqb _ c not)
+byte-counts : (t : Bool) (n : ℕ) → boolByte t + n ≡ cond t (suc n) n
+byte-counts true n = omega arith
+byte-counts false n = omega arith
+
+pub tally-turn : (c : ℕ) (s : Bytes) (i : ℕ) → i < length s → boolByte (eqb (getD s i 0) c) + tallyOf c (drop (i + 1) s) ≡ tallyOf c (drop i s)
+tally-turn c s i inside = byte-counts (eqb (getD s i 0) c) (tallyOf c (drop (i + 1) s)) ∙ sym (ap (tallyOf c) (drop-step s i inside))
 
 pub tally-past : (c : ℕ) (s : Bytes) (i : ℕ) → length s ≤ i → tallyOf c (drop i s) ≡ 0
 tally-past c s i past = ap (tallyOf c) (drop-past s i past)
@@ -55,3 +64,45 @@ tally-past c s i past = ap (tallyOf c) (drop-past s i past)
 -- a part that runs to the end
 pub take-rest : {A : Type 0} (s : List A) (i : ℕ) → take (length s - i) (drop i s) ≡ drop i s
 take-rest s i = take-all (length s - i) (drop i s) (omega (arith, length-drop i s))
+
+-- bytes that lack c in front of others
+seek-behind : (c : ℕ) (p rest : Bytes) → every (λ b. not (eqb b c)) p ≡ true → seek c (p ++ rest) ≡ length p + seek c rest
+seek-behind c [] rest lacks = omega arith
+seek-behind c (b ∷ p) rest lacks =
+    let k = both (not (eqb b c)) (every (λ b. not (eqb b c)) p) lacks in
+    ap (λ t. cond t 0 (suc (seek c (p ++ rest)))) (not-true (eqb b c) (k .left)) ∙ ap suc (seek-behind c p rest (k .right)) ∙ omega arith
+
+-- a block that lacks it is passed over
+pub seek-block : (c : ℕ) (s : Bytes) (i n : ℕ) → i + n ≤ length s → every (λ b. not (eqb b c)) (take n (drop i s)) ≡ true → seek c (drop i s) ≡ n + seek c (drop (i + n) s)
+seek-block c s i n inside lacks =
+    let long : length (take n (drop i s)) ≡ n = omega (arith, length-take n (drop i s), length-drop i s) in
+    ap (seek c) (sym (take-append-drop n (drop i s)))
+    ∙ seek-behind c (take n (drop i s)) (drop n (drop i s)) lacks
+    ∙ (λ j. long j + seek c (drop-drop n i s j))
+
+tally-behind : (c : ℕ) (p rest : Bytes) → tallyOf c (p ++ rest) ≡ tallyOf c p + tallyOf c rest
+tally-behind c [] rest = omega arith
+tally-behind c (b ∷ p) rest = by (eqb b c) (tally-behind c p rest)
+  where
+    by : (t : Bool) → tallyOf c (p ++ rest) ≡ tallyOf c p + tallyOf c rest
+        → cond t (suc (tallyOf c (p ++ rest))) (tallyOf c (p ++ rest)) ≡ cond t (suc (tallyOf c p)) (tallyOf c p) + tallyOf c rest
+    by true same = omega arith
+    by false same = same
+
+tally-long : (c : ℕ) (s : Bytes) → tallyOf c s ≤ length s
+tally-long c [] = omega arith
+tally-long c (b ∷ s) = by (eqb b c) (tally-long c s)
+  where
+    by : (t : Bool) → tallyOf c s ≤ length s → cond t (suc (tallyOf c s)) (tallyOf c s) ≤ suc (length s)
+    by true few = omega arith
+    by false few = omega arith
+
+-- the next bytes are counted, and those behind them; and they are no more than their number
+pub tally-block : (c : ℕ) (s : Bytes) (i n : ℕ) → tallyOf c (take n (drop i s)) + tallyOf c (drop (i + n) s) ≡ tallyOf c (drop i s)
+tally-block c s i n =
+    ap (λ l. tallyOf c (take n (drop i s)) + tallyOf c l) (sym (drop-drop n i s))
+    ∙ sym (tally-behind c (take n (drop i s)) (drop n (drop i s)))
+    ∙ ap (tallyOf c) (take-append-drop n (drop i s))
+
+pub tally-few : (c : ℕ) (s : Bytes) (n : ℕ) → tallyOf c (take n s) ≤ n
+tally-few c s n = omega (arith, tally-long c (take n s), length-take n s)

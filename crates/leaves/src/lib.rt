@@ -1,7 +1,9 @@
 // What is asked of a stretch of bytes: whether all are of a class, where a byte is, how often. Every function takes every input.
 ghost use mathlib.Core.Path.{_≡_};
-ghost use Prim.Native.Nat.{_+_};
-ghost use lib.ListN.{drop};
+ghost use mathlib.Core.Bool.{not};
+ghost use Prim.Native.Nat.{_+_, _-_, _≤_};
+ghost use lib.Dec.{eqb};
+ghost use lib.ListN.{length, drop};
 ghost use Rattle.label.specs.Bytes.{every};
 ghost use Rattle.leaves.specs.Classes.{classOf};
 ghost use Rattle.leaves.specs.Seek.{seek, tallyOf};
@@ -71,17 +73,72 @@ pub fn find(s: &[u8], from: usize, c: u8) -> usize
     i
 }
 
-// How many bytes are c.
-pub fn tally(s: &[u8], c: u8) -> usize
-    ensures { λ r. ⌜ r ≡ tallyOf c (now (s .entry)) ⌝ }
+// Whether none of the bytes is c. It runs to the end whatever it meets, so that it is vectorised.
+fn lacks(s: &[u8], c: u8) -> bool
+    ensures { λ r. ⌜ r ≡ every (λ b. not (eqb b c)) (now (s .entry)) ⌝ }
 {
-    let mut n = 0;
+    let mut ok = true;
     let mut i = 0;
     while i < s.len() {
-        if s[i] == c {
-            n += 1;
+        ok = ok & (s[i] != c);
+        i += 1;
+    }
+    ok
+}
+
+// How many offsets there are from which on 64 bytes stand.
+fn block_starts(length: usize) -> usize
+    ensures { λ r. ⌜ r ≡ length - 63 ⌝ }
+{
+    if length < 63 { 0 } else { length - 63 }
+}
+
+// The same as `find`, for a byte that is likely far: 64 bytes at a time are passed over.
+pub fn find_far(s: &[u8], from: usize, c: u8) -> usize
+    ensures { λ r. ⌜ r ≡ from + seek c (drop from (now (s .entry))) ⌝ }
+{
+    let starts = block_starts(s.len());
+    let mut i = from;
+    while i < starts {
+        if !lacks(&s[i..i + 64], c) {
+            return find(s, i, c);
         }
+        i += 64;
+    }
+    find(s, i, c)
+}
+
+// A byte as a number to count with.
+fn wide(x: u8) -> usize
+    ensures { λ r. ⌜ r ≡ x ⌝ }
+{
+    x as usize
+}
+
+// How many of a few bytes are c: counted in a byte, so that many go at a time.
+fn tally_few(s: &[u8], c: u8) -> u8
+    requires { ⌜ length (now s) ≤ 64 ⌝ }
+    ensures { λ r. ⌜ r ≡ tallyOf c (now (s .entry)) ⌝ }
+{
+    let mut n: u8 = 0;
+    let mut i = 0;
+    while i < s.len() {
+        n = n + ((s[i] == c) as u8);
         i += 1;
     }
     n
+}
+
+// How many bytes are c, 64 bytes at a time.
+pub fn tally(s: &[u8], c: u8) -> usize
+    ensures { λ r. ⌜ r ≡ tallyOf c (now (s .entry)) ⌝ }
+{
+    let starts = block_starts(s.len());
+    let mut n = 0;
+    let mut i = 0;
+    while i < starts {
+        n = n + wide(tally_few(&s[i..i + 64], c));
+        i += 64;
+    }
+    n + wide(tally_few(&s[i..], c))
 }

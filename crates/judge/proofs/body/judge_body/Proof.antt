@@ -10,11 +10,11 @@ use borrow.Author.Needs.{needs}
 use Rattle.judge.proofs.body.judge_body.Statement.{statement}
 use Rattle.judge.proofs.body.judge_body.Tie as tie
 
-find-requires : tie.Need-find-requires
-find-requires c κs = search needs
+find-far-requires : tie.Need-find-far-requires
+find-far-requires c κs = search needs
 
 returns : tie.Need-returns
-returns c = body-none (c .before .before .before .args .k) (c .before .before .before .args .before) (c .before .before .before .args .m .now) (c .before .before .before .args .at) (c .before .find .result) (c .before .before .before .pre .1) (c .before .find .ensures) (c .if1 .taken)
+returns c = body-none (c .before .before .before .args .k) (c .before .before .before .args .before) (c .before .before .before .args .m .now) (c .before .before .before .args .at) (c .before .find-far .result) (c .before .before .before .pre .1) (c .before .find-far .ensures) (c .if1 .taken)
 
 sub-body : tie.Need-sub-body
 sub-body c = search needs
@@ -32,13 +32,13 @@ all-in-requires : tie.Need-all-in-requires
 all-in-requires c κs = search needs
 
 returns-2 : tie.Need-returns-2
-returns-2 c = body-byte (c .before .before .before .before .before .before .before .args .k) (c .before .before .before .before .before .before .before .args .before) (c .before .before .before .before .before .before .before .args .m .now) (c .before .before .before .before .before .before .before .args .at) (c .before .before .before .before .before .find .result) (c .before .before .before .before .before .before .before .pre .1) (c .before .before .before .before .before .find .ensures) (c .before .before .before .before .if1 .left) (ap (λ class. every class (take (c .before .before .before .before .before .find .result - c .before .before .before .before .before .before .before .args .at) (drop (c .before .before .before .before .before .before .before .args .at) (c .before .before .before .before .before .before .before .args .m .now)))) (sym (c .before .before .permitted .ensures)) ∙ sym (c .before .all-in .ensures) ∙ not-true _ (c .if2 .taken))
+returns-2 c = body-byte (c .before .before .before .before .before .before .before .args .k) (c .before .before .before .before .before .before .before .args .before) (c .before .before .before .before .before .before .before .args .m .now) (c .before .before .before .before .before .before .before .args .at) (c .before .before .before .before .before .find-far .result) (c .before .before .before .before .before .before .before .pre .1) (c .before .before .before .before .before .find-far .ensures) (c .before .before .before .before .if1 .left) (ap (λ class. every class (take (c .before .before .before .before .before .find-far .result - c .before .before .before .before .before .before .before .args .at) (drop (c .before .before .before .before .before .before .before .args .at) (c .before .before .before .before .before .before .before .args .m .now)))) (sym (c .before .before .permitted .ensures)) ∙ sym (c .before .all-in .ensures) ∙ not-true _ (c .if2 .taken))
 
 rules-hold-requires : tie.Need-rules-hold-requires
 rules-hold-requires c κs = search needs
 
 returns-3 : tie.Need-returns-3
-returns-3 c = body-rule (c .before .before .before .before .before .before .before .before .before .args .k) (c .before .before .before .before .before .before .before .before .before .args .before) (c .before .before .before .before .before .before .before .before .before .args .m .now) (c .before .before .before .before .before .before .before .before .before .args .at) (c .before .before .before .before .before .before .before .find .result) (c .before .before .before .before .before .before .before .before .before .pre .1) (c .before .before .before .before .before .before .before .find .ensures) (c .before .before .before .before .before .before .if1 .left) (ap (λ class. every class (take (c .before .before .before .before .before .before .before .find .result - c .before .before .before .before .before .before .before .before .before .args .at) (drop (c .before .before .before .before .before .before .before .before .before .args .at) (c .before .before .before .before .before .before .before .before .before .args .m .now)))) (sym (c .before .before .before .before .permitted .ensures)) ∙ sym (c .before .before .before .all-in .ensures) ∙ not-false _ (c .before .before .if2 .left)) (sym (c .before .rules-hold .ensures) ∙ not-true _ (c .if3 .taken))
+returns-3 c = body-rule (c .before .before .before .before .before .before .before .before .before .args .k) (c .before .before .before .before .before .before .before .before .before .args .before) (c .before .before .before .before .before .before .before .before .before .args .m .now) (c .before .before .before .before .before .before .before .before .before .args .at) (c .before .before .before .before .before .before .before .find-far .result) (c .before .before .before .before .before .before .before .before .before .pre .1) (c .before .before .before .before .before .before .before .find-far .ensures) (c .before .before .before .before .before .before .if1 .left) (ap (λ class. every class (take (c .before .before .before .before .before .before .before .find-far .result - c .before .before .before .before .before .before .before .before .before .args .at) (drop (c .before .before .before .before .before .before .before .before .before .args .at) (c .before .before .before .before .before .before .before .before .before .args .m .now)))) (sym (c .before .before .before .before .permitted .ensures)) ∙ sym (c .before .before .before .all-in .ensures) ∙ not-false _ (c .before .before .if2 .left)) (sym (c .before .rules-hold .ensures) ∙ not-true _ (c .if3 .taken))
 
 add-t7 : tie.Need-add-t7
 add-t7 c = search needs
@@ -49,7 +49,7 @@ rows-in-requires c κs = search needs
 add-t17 : tie.Need-add-t17
 add-t17 c =
     let is = c .rows-in .ensures in
-    let n = c .before .before .before .before .before .before .before .before .find .result - c .before .before .before .before .before .before .before .before .before .before .args .at in
+    let n = c .before .before .before .before .before .before .before .before .find-far .result - c .before .before .before .before .before .before .before .before .before .before .args .at in
     let few =
     rows-of-part (c .before .before .before .before .before .before .before .before .before .before .args .k) (c .before .before .before .before .before .before .before .before .before .before .args .m .now)
     (c .before .before .before .before .before .before .before .before .before .before .args .at) n in
@@ -57,14 +57,14 @@ add-t17 c =
 
 returns-4 : tie.Need-returns-4
 returns-4 c =
-    ap (Closed (c .before .before .before .before .before .before .before .before .find .result + 1)) (ap (λ n. c .before .before .before .before .before .before .before .before .before .before .args .before + n) (c .rows-in .ensures))
-    ∙ body-closed (c .before .before .before .before .before .before .before .before .before .before .args .k) (c .before .before .before .before .before .before .before .before .before .before .args .before) (c .before .before .before .before .before .before .before .before .before .before .args .m .now) (c .before .before .before .before .before .before .before .before .before .before .args .at) (c .before .before .before .before .before .before .before .before .find .result) (c .before .before .before .before .before .before .before .before .before .before .pre .1) (c .before .before .before .before .before .before .before .before .find .ensures) (c .before .before .before .before .before .before .before .if1 .left) (ap (λ class. every class (take (c .before .before .before .before .before .before .before .before .find .result - c .before .before .before .before .before .before .before .before .before .before .args .at) (drop (c .before .before .before .before .before .before .before .before .before .before .args .at) (c .before .before .before .before .before .before .before .before .before .before .args .m .now)))) (sym (c .before .before .before .before .before .permitted .ensures)) ∙ sym (c .before .before .before .before .all-in .ensures) ∙ not-false _ (c .before .before .before .if2 .left)) (sym (c .before .before .rules-hold .ensures) ∙ not-false _ (c .before .if3 .left))
+    ap (Closed (c .before .before .before .before .before .before .before .before .find-far .result + 1)) (ap (λ n. c .before .before .before .before .before .before .before .before .before .before .args .before + n) (c .rows-in .ensures))
+    ∙ body-closed (c .before .before .before .before .before .before .before .before .before .before .args .k) (c .before .before .before .before .before .before .before .before .before .before .args .before) (c .before .before .before .before .before .before .before .before .before .before .args .m .now) (c .before .before .before .before .before .before .before .before .before .before .args .at) (c .before .before .before .before .before .before .before .before .find-far .result) (c .before .before .before .before .before .before .before .before .before .before .pre .1) (c .before .before .before .before .before .before .before .before .find-far .ensures) (c .before .before .before .before .before .before .before .if1 .left) (ap (λ class. every class (take (c .before .before .before .before .before .before .before .before .find-far .result - c .before .before .before .before .before .before .before .before .before .before .args .at) (drop (c .before .before .before .before .before .before .before .before .before .before .args .at) (c .before .before .before .before .before .before .before .before .before .before .args .m .now)))) (sym (c .before .before .before .before .before .permitted .ensures)) ∙ sym (c .before .before .before .before .all-in .ensures) ∙ not-false _ (c .before .before .before .if2 .left)) (sym (c .before .before .rules-hold .ensures) ∙ not-false _ (c .before .if3 .left))
 
 pub judge-body-spec : {M : Type 1} → statement M
 judge-body-spec =
     tie.close
     (tie.spec
-    find-requires
+    find-far-requires
     returns
     sub-body
     part-body-start
