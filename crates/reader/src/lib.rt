@@ -18,7 +18,7 @@ ghost use Rattle.label.specs.Layout.{numbers, allNumbers};
 ghost use Rattle.label.specs.ReadMessage.{reading};
 ghost use Rattle.label.specs.Answer.{overlaid, rowsRead};
 ghost use Rattle.reader.specs.Shapes.{shapeOf};
-ghost use Rattle.reader.specs.Cursors.{ahead, plainRun, countFrom, kindOf, standing, rowOf, plainRow, indicatorAt, textRow, restRow, opening, afterPiece, afterSegment, afterSubElement, firstCursor, nextCursor};
+ghost use Rattle.reader.specs.Cursors.{ahead, plainRun, countFrom, kindOf, standing, rowOf, plainRow, indicatorAt, textRow, restRow, opening, afterPiece, afterSegment, afterSubElement, firstCursor, nextCursor, pieceFollows};
 ghost use Rattle.reader.specs.Tables.{Fits, Room};
 use leaves::Class;
 use leaves::GS;
@@ -213,7 +213,7 @@ fn standing_at(stage: Stage, format: u32, at: usize, n: usize) -> Cursor
 fn text_at(m: &[u8], format: u32, at: usize) -> Cursor
     ensures { λ r. ⌜ r ≡ textRow (now (m .entry)) format at ⌝ }
 {
-    let end = leaves::find(m, at, RS);
+    let end = leaves::find_far(m, at, RS);
     standing_at(Stage::Body, format, at, end - at)
 }
 
@@ -313,6 +313,30 @@ pub fn next(m: &[u8], c: Cursor) -> Cursor
     }
 }
 
+// Whether a row is a field or an element, and another follows in its envelope.
+fn piece_follows(m: &[u8], stage: Stage, end: usize) -> bool
+    ensures { λ r. ⌜ r ≡ pieceFollows (now (m .entry)) stage end ⌝ }
+{
+    match stage {
+        Stage::Piece => byte_at(m, end) == GS,
+        _ => false,
+    }
+}
+
+// The same as `next`: most rows are fields or elements with another behind them, which is found on the spot.
+pub(crate) fn advance(m: &[u8], c: Cursor) -> Cursor
+    ensures { λ r. ⌜ r ≡ nextCursor (now (m .entry)) c ⌝ }
+{
+    let stage = c.stage;
+    let start = c.start;
+    let length = c.length;
+    let end = ahead_of(m, start, length);
+    if piece_follows(m, stage, end) {
+        return plain_row(m, Stage::Piece, c.format, ahead_of(m, end, 1));
+    }
+    next(m, c)
+}
+
 // Puts a row's four numbers into a table, from an index on; all other numbers stay as they were.
 fn put_row(t: &mut [u32], at: usize, c: Cursor)
     requires { ⌜ Fits (now t) at c ⌝ }
@@ -334,7 +358,7 @@ fn fill(m: &[u8], rows: usize, table: &mut [u32])
     let mut i = 0;
     while i < rows {
         put_row(table, 4 * i, c);
-        c = next(m, c);
+        c = advance(m, c);
         i += 1;
     }
 }

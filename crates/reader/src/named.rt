@@ -1,7 +1,7 @@
 // The part of a message that a row names, handed back uncopied.
 use crate::Cursor;
+use crate::advance;
 use crate::first;
-use crate::next;
 use label::Reading;
 ghost use Prim.Native.Nat.{_+_, _<_};
 ghost use mathlib.Core.Path.{_≡_};
@@ -37,7 +37,7 @@ fn cursor_at(m: &[u8], row: usize) -> Cursor
     let mut c = first(m);
     let mut i = 0;
     while i < row {
-        c = next(m, c);
+        c = advance(m, c);
         i += 1;
     }
     c

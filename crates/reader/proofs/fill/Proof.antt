@@ -45,8 +45,8 @@ put-row-requires c κs =
     let long = filled-length m all old (at .table) (at .c) (at .i) (at .inv .1) roomy in
     record { roomy = omega arith; inside = filled-inside m all old (at .table) (at .c) (at .i) (at .inv .1) roomy more }
 
-next-requires : tie.Need-next-requires Inv-loop μ-loop
-next-requires c κs = search needs
+advance-requires : tie.Need-advance-requires Inv-loop μ-loop
+advance-requires c κs = search needs
 
 add-i : tie.Need-add-i Inv-loop μ-loop
 add-i c = search needs
@@ -63,7 +63,7 @@ loop-again c =
     let at = c .before .before .before .before .before .before .loop in
     let more : at .i < length all = omega (arith, c .before .before .before .before .before .loop-test .taken) in (
       search needs,
-      subst (λ (next : Cursor). Filled m all old (c .before .before .before .put-row .last .0) next (at .i + 1)) (sym (c .next .ensures))
+      subst (λ (next : Cursor). Filled m all old (c .before .before .before .put-row .last .0) next (at .i + 1)) (sym (c .advance .ensures))
           (filled-next m all old (at .table) (at .c) (at .i) (at .inv .1) roomy more (c .before .before .before .put-row .last .0) (c .before .before .before .put-row .ensures)),
     )
 
@@ -95,7 +95,7 @@ fill-spec =
     loop-holds
     mul-put-row
     put-row-requires
-    next-requires
+    advance-requires
     add-i
     loop-less
     loop-again

@@ -4,8 +4,8 @@ use borrow.Author.Needs.{needs}
 use Rattle.reader.proofs.text_at.Statement.{statement}
 use Rattle.reader.proofs.text_at.Tie as tie
 
-find-requires : tie.Need-find-requires
-find-requires c κs = search needs
+find-far-requires : tie.Need-find-far-requires
+find-far-requires c κs = search needs
 
 sub-standing-at : tie.Need-sub-standing-at
 sub-standing-at c = search needs
@@ -14,7 +14,7 @@ standing-at-requires : tie.Need-standing-at-requires
 standing-at-requires c κs = search needs
 
 returns : tie.Need-returns
-returns c = simp (c .standing-at .ensures, c .before .find .ensures, add-sub-cancel-left)
+returns c = simp (c .standing-at .ensures, c .before .find-far .ensures, add-sub-cancel-left)
 
 pub text-at-spec : {M : Type 1} → statement M
-text-at-spec = tie.close (tie.spec find-requires sub-standing-at standing-at-requires returns)
+text-at-spec = tie.close (tie.spec find-far-requires sub-standing-at standing-at-requires returns)

@@ -29,8 +29,8 @@ loop-holds c =
     let all = rowsRead (reading edition2005 m) in
     (search needs, subst (λ (at : Cursor). Stands m all at 0) (sym (c .first .ensures)) (stands-first m all (walked m)))
 
-next-requires : tie.Need-next-requires Inv-loop μ-loop
-next-requires c κs = search needs
+advance-requires : tie.Need-advance-requires Inv-loop μ-loop
+advance-requires c κs = search needs
 
 add-i : tie.Need-add-i Inv-loop μ-loop
 add-i c = search needs
@@ -44,7 +44,7 @@ loop-again c =
     let all = rowsRead (reading edition2005 m) in
     let at = c .before .before .loop in
     let more : at .i < length all = omega (arith, c .before .loop-test .taken) in
-    (search needs, subst (λ (next : Cursor). Stands m all next (at .i + 1)) (sym (c .next .ensures)) (stands-next m all (at .c) (at .i) (at .inv .1) more))
+    (search needs, subst (λ (next : Cursor). Stands m all next (at .i + 1)) (sym (c .advance .ensures)) (stands-next m all (at .c) (at .i) (at .inv .1) more))
 
 returns : tie.Need-returns Inv-loop μ-loop
 returns c =
@@ -62,7 +62,7 @@ cursor-at-spec =
     μ-loop
     first-requires
     loop-holds
-    next-requires
+    advance-requires
     add-i
     loop-less
     loop-again
