@@ -1,17 +1,17 @@
 -- Why kinds, formats and lengths are compared, and no content: items that are alike in these, and are rendered to the same bytes, are the same. And the
 -- loop that compares a message's rows with those given.
 use Prim.Native.Nat.{ℕ, suc, _+_, _/_, _%_, _≤_, _<_}
-use mathlib.Core.Path.{_≡_, refl, sym, ap, _∙_, subst}
-use mathlib.Core.Bool.{Bool, true, false, _&&_, false≢true, true≢false}
+use mathlib.Core.Path.{_≡_, refl, sym, ap, _∙_}
+use mathlib.Core.Bool.{Bool, true, false, _&&_, false≢true}
 use mathlib.Core.List.{List, [], _∷_, _++_, map, append-cancel-left}
 use native.Mathlib.Omega.{arith}
-use borrow.Author.Tests.{leb-true, eqb-true, eq-eqb, ne-eqb}
+use borrow.Author.Tests.{leb-true, eqb-true, eq-eqb}
 use lib.ListN.{length, take, drop, length-take, length-drop}
 use lib.Seq.{take-append-seam, drop-append-seam}
 use lib.Dec.{eqb}
 use Rattle.label.specs.Bytes.{Bytes, every}
 use Rattle.label.specs.Limits.{rowWidth}
-use Rattle.label.specs.Formats.{Edition, Rule, ruleOf}
+use Rattle.label.specs.Formats.{Edition, ruleOf}
 use Rattle.label.specs.Layout.{Item, Part, mark, item, Row, rowsFrom, itemsOf}
 use Rattle.label.specs.Message.{header}
 use Rattle.label.specs.Rendered.{marksBetween, renderedAfter, rendered}

@@ -1,27 +1,26 @@
 -- From what is laid out and compared to what is composed, and from that to the answer and the output.
-use Prim.Native.Nat.{ℕ, _/_, _≤_, _<_}
+use Prim.Native.Nat.{ℕ, _≤_, _<_}
 use mathlib.Core.Path.{_≡_, refl, sym, ap, _∙_, subst}
 use mathlib.Core.Bool.{Bool, true, false, cond}
 use mathlib.Core.Option.{Option, none, some}
 use mathlib.Core.List.{List, [], _∷_, _++_, append-nil}
 use native.Mathlib.Omega.{arith}
 use borrow.Author.Tests.{lt-ltb, le-ltb}
-use lib.ListN.{length, take, drop, length-append, length-take}
+use lib.ListN.{length, take, drop, length-take}
 use lib.Seq.{take-all}
-use lib.Dec.{ltb}
 use Rattle.label.specs.declared.WriteReason.{WriteReason}
 use Rattle.label.specs.declared.WriteReason.the-variants.{BadRows, NoSuchMessage, NoOutputRoom}
 use Rattle.label.specs.declared.Writing.{Writing}
 use Rattle.label.specs.declared.Writing.the-variants.{Written, Declined}
 use Rattle.label.specs.Bytes.{Bytes}
-use Rattle.label.specs.Limits.{longest, rowWidth}
+use Rattle.label.specs.Limits.{longest}
 use Rattle.label.specs.Formats.{edition2005}
 use Rattle.label.specs.Layout.{Item, itemsOf}
-use Rattle.label.specs.Message.{header, messageParts, rowsOf}
+use Rattle.label.specs.Message.{messageParts, rowsOf}
 use Rattle.label.specs.ReadMessage.{Outcome, read, refused, reading}
 use Rattle.label.specs.Answer.{rowsRead}
 use Rattle.label.specs.Rendered.{rendered}
-use Rattle.label.specs.Writing.{rowsIn, rowsStand, itemsIn, ifSame, composed, Composition, written, declined, fitting, writing, writeAnswerOf, writeAnswer, outputAfter}
+use Rattle.label.specs.Writing.{rowsIn, rowsStand, itemsIn, ifSame, composed, written, declined, writing, writeAnswerOf, writeAnswer, outputAfter}
 use Rattle.label.proofs.Cases.{all-definitions}
 use Rattle.label.proofs.Promises.{accepted-is-good}
 use Rattle.label.proofs.Rendering.{rendered-good}

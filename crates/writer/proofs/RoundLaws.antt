@@ -1,7 +1,7 @@
 -- What a table with room for every message holds after reading, and that what is written from it is the message.
 use Prim.Native.Nat.{ℕ, _*_, _≤_}
 use mathlib.Core.Path.{_≡_, refl, sym, ap, _∙_}
-use mathlib.Core.List.{List, [], _∷_}
+use mathlib.Core.List.{List}
 use native.Mathlib.Omega.{arith}
 use lib.ListN.{length, getD, take}
 use Rattle.label.specs.declared.Counts.{Counts}
@@ -12,10 +12,9 @@ use Rattle.label.specs.Bytes.{Bytes}
 use Rattle.label.specs.Limits.{mostRows, rowWidth}
 use Rattle.label.specs.Formats.{edition2005}
 use Rattle.label.specs.Layout.{allNumbers}
-use Rattle.label.specs.Envelope.{Envelope}
 use Rattle.label.specs.Message.{rowsOf}
 use Rattle.label.specs.ReadMessage.{Outcome, read, refused, reading}
-use Rattle.label.specs.Answer.{answerOf, refusal, roomOf, answered, readAnswer, tableAfter, rowsRead}
+use Rattle.label.specs.Answer.{answerOf, roomOf, answered, readAnswer, tableAfter, rowsRead}
 use Rattle.label.specs.Writing.{writeAnswerOf, writeAnswer, outputAfter}
 use Rattle.label.proofs.Promises.{accepted-is-good, good-is-read, good-is-accepted}
 use Rattle.label.proofs.RowItems.{table-numbers}

@@ -4,7 +4,7 @@ use mathlib.Core.List.{List, [], _∷_}
 use lib.ListN.{length}
 use Rattle.label.specs.Bytes.{Bytes}
 use Rattle.label.specs.Formats.{edition2005}
-use Rattle.label.specs.Part.{Stretch, partOf}
+use Rattle.label.specs.Part.{partOf}
 use Rattle.label.specs.Answer.{roomOf, readAnswer}
 use Rattle.label.specs.Writing.{writeAnswer}
 use Rattle.zielorad.specs.declared.ZieloradReading.{ZieloradReading}

@@ -1,5 +1,5 @@
 -- `limits_of` is `limitOf`: within the table both look up one list, and past a row's end or past the last row the list gives 0 and 0.
-use mathlib.Core.Path.{_≡_, refl, sym, ap, _∙_}
+use mathlib.Core.Path.{_≡_, sym, ap}
 use mathlib.Core.List.{[]}
 use Prim.Native.Nat.{ℕ, zero, suc, _≤_, zero-le}
 use native.Mathlib.Omega.{arith}

@@ -1,5 +1,5 @@
 -- `lacks` tests every byte. The loop's invariant: what was found so far and the test of the bytes to come are together the test of all.
-use Prim.Native.Nat.{_+_, _≤_, _-_}
+use Prim.Native.Nat.{_≤_, _-_}
 use mathlib.Core.Path.{_≡_, refl, _∙_}
 use mathlib.Core.Bool.{not, _&&_}
 use borrow.Author.Needs.{needs}

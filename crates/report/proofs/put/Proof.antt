@@ -2,7 +2,7 @@
 use native.Mathlib.Omega.{arith}
 use mathlib.Core.Path.{refl, sym}
 use borrow.Author.Needs.{needs}
-use lib.ListN.{length, set, length-set}
+use lib.ListN.{set, length-set}
 use lib.Seq.{set-out}
 use Rattle.io.proofs.Counting.{counts}
 use Rattle.report.proofs.put.Statement.{statement}

@@ -1,7 +1,7 @@
 -- `vectors::split::first` meets its contract: what is found behind `from` lies within what is left there.
 use native.Mathlib.Omega.{arith}
 use borrow.Author.Needs.{needs}
-use lib.ListN.{length, drop, length-drop}
+use lib.ListN.{drop, length-drop}
 use Rattle.io.proofs.Counting.{counts}
 use Rattle.vectors.proofs.Bound.{seek-within}
 use Rattle.vectors.proofs.split.first.Statement.{statement}

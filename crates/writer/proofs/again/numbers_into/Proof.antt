@@ -1,10 +1,8 @@
 -- `numbers_into` reads with ample room.
-use Prim.Native.Nat.{_*_, _≤_}
 use mathlib.Core.Path.{_≡_, sym, ap, _∙_}
 use native.Mathlib.Omega.{arith}
 use borrow.Author.Needs.{needs}
 use lib.ListN.{length}
-use Rattle.label.specs.declared.Reading.{Reading}
 use Rattle.label.specs.Answer.{answerOf}
 use Rattle.writer.proofs.RoundLaws.{holds-accepted, holds-refused}
 use Rattle.writer.proofs.again.numbers_into.Statement.{statement}

@@ -1,6 +1,5 @@
 -- `rows_stand` asks in the definition's order.
 use mathlib.Core.Path.{_∙_}
-use native.Mathlib.Omega.{arith}
 use borrow.Author.Needs.{needs}
 use Rattle.writer.proofs.GivenLaws.{not-whole, too-many, as-they-lie}
 use Rattle.writer.proofs.given.rows_stand.Statement.{statement}

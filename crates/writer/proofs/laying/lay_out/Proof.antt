@@ -1,7 +1,6 @@
 -- `lay_out` lays row by row. The loop's invariant: what is laid, and what the rows from the index on render to, is the whole message.
-use Prim.Native.Nat.{_+_, _-_}
-use mathlib.Core.Path.{_≡_, sym, ap, _∙_, subst}
-use native.Mathlib.Omega.{arith}
+use Prim.Native.Nat.{_-_}
+use mathlib.Core.Path.{subst}
 use borrow.Author.Needs.{needs}
 use lib.ListN.{length}
 use Rattle.label.specs.Bytes.{Bytes}

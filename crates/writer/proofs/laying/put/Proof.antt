@@ -1,5 +1,4 @@
 -- `put` copies where there is room.
-use native.Mathlib.Omega.{arith}
 use borrow.Author.Needs.{needs}
 use Rattle.writer.proofs.LayingLaws.{put-outside, put-none, put-copied}
 use Rattle.writer.proofs.laying.put.Statement.{statement}

@@ -1,5 +1,4 @@
 -- `put_marks` puts the first of the bytes.
-use mathlib.Core.Path.{sym}
 use native.Mathlib.Omega.{arith}
 use lib.ListN.{length-take}
 use borrow.Author.Needs.{needs}

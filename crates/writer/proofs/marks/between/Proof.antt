@@ -1,9 +1,7 @@
 -- `between` goes by the kind of the later row.
-use mathlib.Core.Path.{sym, ap, _∙_}
 use native.Mathlib.Omega.{arith}
 use borrow.Author.Needs.{needs}
 use borrow.Author.Tests.{ne-eqb}
-use Rattle.label.specs.Formats.{edition2005, ruleOf}
 use Rattle.label.specs.Rendered.{marksBetween}
 use Rattle.writer.proofs.marks.between.Statement.{statement}
 use Rattle.writer.proofs.marks.between.Tie as tie
