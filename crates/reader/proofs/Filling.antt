@@ -1,10 +1,10 @@
 -- How a table is filled: four stores put a row, and one turn puts the cursor's row behind those that stand already.
-use Prim.Native.Nat.{ℕ, suc, _+_, _*_, _≤_, _<_}
-use mathlib.Core.Path.{_≡_, refl, sym, ap, _∙_, subst}
-use mathlib.Core.List.{List, [], _∷_, _++_, append-assoc, append-nil}
+use Prim.Native.Nat.{ℕ, suc, _+_, _*_, _≤_, _<_, min}
+use mathlib.Core.Path.{_≡_, refl, sym, ap, _∙_}
+use mathlib.Core.List.{List, [], _∷_, _++_, append-assoc}
 use native.Mathlib.Omega.{arith}
 use lib.ListN.{length, take, drop, set, length-append, length-drop}
-use lib.Seq.{sets-eq, take-at, drop-drop, drop-append-add}
+use lib.Seq.{sets-eq, take-at, take-all, take-add, length-take-le, drop-drop, drop-append-add}
 use Rattle.label.specs.Bytes.{Bytes}
 use Rattle.label.specs.Limits.{longest, rowWidth}
 use Rattle.label.specs.Layout.{Row, numbers, allNumbers}
@@ -14,7 +14,7 @@ use Rattle.label.proofs.Answers.{numbers-wide}
 use Rattle.reader.specs.declared.Cursor.{Cursor}
 use Rattle.reader.specs.Cursors.{rowOf, firstCursor, nextCursor}
 use Rattle.reader.proofs.Walks.{Yields}
-use Rattle.reader.proofs.Promises.{Walked}
+use Rattle.reader.proofs.Standing.{rows-here, yields-next, holds-here}
 
 pub four-stores : (t : List ℕ) (at a b c d : ℕ) → at + rowWidth ≤ length t
     → set (set (set (set t at a) (at + 1) b) (at + 2) c) (at + 3) d ≡ take at t ++ ((a ∷ b ∷ c ∷ d ∷ []) ++ drop (at + rowWidth) t)
@@ -30,55 +30,44 @@ all-numbers-append : (rs rs′ : List Row) → allNumbers (rs ++ rs′) ≡ allN
 all-numbers-append [] rs′ = refl
 all-numbers-append (r ∷ rs) rs′ = ap (λ ns. numbers r ++ ns) (all-numbers-append rs rs′) ∙ sym (append-assoc (numbers r) (allNumbers rs) (allNumbers rs′))
 
--- a table after i rows: those done, then what it held; and from the cursor on the rows that are left
+-- a table after i rows: those, then what it held; and the cursor yields the rows from number i on
 pub record Filled (m : Bytes) (rows : List Row) (old : List ℕ) (table : List ℕ) (c : Cursor) (i : ℕ) : Type 0 where
-  pub done : List Row
-  pub left : List Row
-  pub all : done ++ left ≡ rows
-  pub counted : length done ≡ i
-  pub holds : table ≡ allNumbers done ++ drop (rowWidth * i) old
-  pub yields : Yields m c left
-  pub inside : Each (λ (r : Row). r .start + r .length ≤ longest) left
+  pub upTo : i ≤ length rows
+  pub holds : table ≡ allNumbers (take i rows) ++ drop (rowWidth * i) old
+  pub yields : Yields m c (drop i rows)
 
-pub filled-first : (m : Bytes) (rows : List Row) (old : List ℕ) → Walked m rows → Filled m rows old old (firstCursor m) 0
-filled-first m rows old walk = record { done = []; left = rows; all = refl; counted = refl; holds = refl; yields = walk .yields; inside = walk .inside }
+pub filled-first : (m : Bytes) (rows : List Row) (old : List ℕ) → Yields m (firstCursor m) rows → Filled m rows old old (firstCursor m) 0
+filled-first m rows old yields = record { upTo = omega arith; holds = refl; yields = yields }
 
 module _ (m : Bytes) (rows : List Row) (old table : List ℕ) (c : Cursor) (i : ℕ) (filled : Filled m rows old table c i) (roomy : rowWidth * length rows ≤ length old) where
-  done-wide : length (allNumbers (filled .done)) ≡ rowWidth * i
-  done-wide = numbers-wide (filled .done) ∙ ap (λ n. rowWidth * n) (filled .counted)
-
-  rows-long : length rows ≡ i + length (filled .left)
-  rows-long = omega (arith, ap length (filled .all), length-append (filled .done) (filled .left), filled .counted)
+  done-wide : length (allNumbers (take i rows)) ≡ rowWidth * i
+  done-wide = numbers-wide (take i rows) ∙ ap (λ n. rowWidth * n) (length-take-le i rows (filled .upTo))
 
   -- the table keeps its length
   pub filled-length : length table ≡ length old
-  filled-length =
-      omega (arith, ap length (filled .holds), length-append (allNumbers (filled .done)) (drop (rowWidth * i) old), length-drop (rowWidth * i) old, done-wide, rows-long, roomy)
+  filled-length = omega (arith, ap length (filled .holds), length-append (allNumbers (take i rows)) (drop (rowWidth * i) old), length-drop (rowWidth * i) old, done-wide)
 
   -- after all rows it holds them and what it held behind them
   pub filled-last : length rows ≤ i → table ≡ overlaid (allNumbers rows) old
-  filled-last last = by (filled .left) (filled .all) rows-long
-    where
-      by : (left : List Row) → filled .done ++ left ≡ rows → length rows ≡ i + length left → table ≡ overlaid (allNumbers rows) old
-      by [] all long =
-          let whole : filled .done ≡ rows = sym (append-nil (filled .done)) ∙ all in
-          filled .holds ∙ (λ j. allNumbers (whole j) ++ drop ((sym done-wide ∙ ap (λ rs. length (allNumbers rs)) whole) j) old)
-      by (r ∷ rs) all long = absurd (omega arith)
+  filled-last last =
+      let whole = take-all i rows last in
+      filled .holds ∙ (λ j. allNumbers (whole j) ++ drop ((sym done-wide ∙ ap (λ rs. length (allNumbers rs)) whole) j) old)
 
   module _ (more : i < length rows) where
-    -- the cursor's row lies in the message
-    pub filled-inside : c .start + c .length ≤ longest
-    filled-inside = by (filled .left) rows-long (filled .yields) (filled .inside)
-      where
-        by : (left : List Row) → length rows ≡ i + length left → Yields m c left → Each (λ (r : Row). r .start + r .length ≤ longest) left → c .start + c .length ≤ longest
-        by [] long yields inside = absurd (omega arith)
-        by (r ∷ rs) long yields inside = subst (λ (r : Row). r .start + r .length ≤ longest) (sym (yields .0)) (inside .0)
+    -- the cursor's row lies in the first `longest` bytes
+    pub filled-inside : Each (λ (r : Row). r .start + r .length ≤ min longest (length m)) rows → c .start + c .length ≤ longest
+    filled-inside inside =
+        let here = holds-here m rows c i (filled .yields) more (λ (r : Row). r .start + r .length ≤ min longest (length m)) inside in
+        omega arith
 
     -- one more row
-    put-row-behind : (table′ : List ℕ) (r : Row) → rowOf c ≡ r → table′ ≡ take (rowWidth * i) table ++ (numbers (rowOf c) ++ drop (rowWidth * i + rowWidth) table)
-        → table′ ≡ allNumbers (filled .done ++ (r ∷ [])) ++ drop (rowWidth * (i + 1)) old
-    put-row-behind table′ r is put =
-        let front = allNumbers (filled .done) in
+    one-more : take (i + 1) rows ≡ take i rows ++ (rowOf c ∷ [])
+    one-more = take-add i 1 rows ∙ ap (λ rs. take i rows ++ take 1 rs) (rows-here m rows c i (filled .yields) more)
+
+    pub filled-next : (table′ : List ℕ) → table′ ≡ take (rowWidth * i) table ++ (numbers (rowOf c) ++ drop (rowWidth * i + rowWidth) table)
+        → Filled m rows old table′ (nextCursor m c) (i + 1)
+    filled-next table′ put =
+        let front = allNumbers (take i rows) in
         let back = drop (rowWidth * i) old in
         let further : rowWidth * i + rowWidth ≡ rowWidth * (i + 1) = omega arith in
         let stands : take (rowWidth * i) table ≡ front = ap (take (rowWidth * i)) (filled .holds) ∙ take-at front back (rowWidth * i) done-wide in
@@ -88,24 +77,12 @@ module _ (m : Bytes) (rows : List Row) (old table : List ℕ) (c : Cursor) (i : 
         ∙ drop-append-add front back rowWidth
         ∙ drop-drop rowWidth (rowWidth * i) old
         ∙ ap (λ n. drop n old) further in
-        put
-        ∙ (λ j. stands j ++ (numbers (is j) ++ stays j))
-        ∙ sym (append-assoc front (numbers r) (drop (rowWidth * (i + 1)) old))
-        ∙ ap (λ ns. ns ++ drop (rowWidth * (i + 1)) old) (sym (all-numbers-append (filled .done) (r ∷ [])))
-
-    pub filled-next : (table′ : List ℕ) → table′ ≡ take (rowWidth * i) table ++ (numbers (rowOf c) ++ drop (rowWidth * i + rowWidth) table)
-        → Filled m rows old table′ (nextCursor m c) (i + 1)
-    filled-next table′ put = by (filled .left) (filled .all) rows-long (filled .yields) (filled .inside)
-      where
-        by : (left : List Row) → filled .done ++ left ≡ rows → length rows ≡ i + length left → Yields m c left → Each (λ (r : Row). r .start + r .length ≤ longest) left
-            → Filled m rows old table′ (nextCursor m c) (i + 1)
-        by [] all long yields inside = absurd (omega arith)
-        by (r ∷ rs) all long yields inside = record {
-          done = filled .done ++ (r ∷ []);
-          left = rs;
-          all = append-assoc (filled .done) (r ∷ []) rs ∙ all;
-          counted = omega (arith, length-append (filled .done) (r ∷ []), filled .counted);
-          holds = put-row-behind table′ r (yields .0) put;
-          yields = yields .1;
-          inside = inside .1;
+        record {
+          upTo = omega arith;
+          holds =
+              put
+              ∙ (λ j. stands j ++ (numbers (rowOf c) ++ stays j))
+              ∙ sym (append-assoc front (numbers (rowOf c)) (drop (rowWidth * (i + 1)) old))
+              ∙ ap (λ ns. ns ++ drop (rowWidth * (i + 1)) old) (sym (ap allNumbers one-more ∙ all-numbers-append (take i rows) (rowOf c ∷ [])));
+          yields = yields-next m rows c i (filled .yields) more;
         }

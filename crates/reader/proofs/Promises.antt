@@ -1,5 +1,5 @@
 -- What the walk promises: from the first row of a message that is read it goes over exactly the rows of the reading, and each lies in the message.
-use Prim.Native.Nat.{_+_, _≤_}
+use Prim.Native.Nat.{_+_, _≤_, min}
 use mathlib.Core.Path.{_≡_, refl, sym, ap, subst}
 use mathlib.Core.Bool.{Bool, true, false, not, _||_, cond, false≢true}
 use mathlib.Core.List.{List, [], _∷_, _++_, map, append-nil}
@@ -45,8 +45,7 @@ module _ (m : Bytes) (es : List Envelope) (good : Good edition2005 m es) where
 -- `longest` bytes
 pub record Walked (m : Bytes) (rows : List Row) : Type 0 where
   pub yields : Yields m (firstCursor m) rows
-  pub inside : Each (λ (r : Row). r .start + r .length ≤ longest) rows
-  pub held : Each (λ (r : Row). r .start + r .length ≤ length m) rows
+  pub inside : Each (λ (r : Row). r .start + r .length ≤ min longest (length m)) rows
 
 pub walked : (m : Bytes) → Walked m (rowsRead (reading edition2005 m))
 unfolding rowsOf message
@@ -56,5 +55,5 @@ walked m = by (reading edition2005 m) refl
     by (read es) says =
         let good = accepted-is-good edition2005 m es says in
         let long = ap length (good .writesOut) in
-        record { yields = good-walk m es good; inside = rows-inside longest 0 (messageParts es) (omega (arith, long, good .notTooLong)); held = rows-inside (length m) 0 (messageParts es) (omega (arith, long)) }
-    by (refused reason place) says = record { yields = tt; inside = tt; held = tt }
+        record { yields = good-walk m es good; inside = rows-inside (min longest (length m)) 0 (messageParts es) (omega (arith, long, good .notTooLong)) }
+    by (refused reason place) says = record { yields = tt; inside = tt }

@@ -20,7 +20,9 @@ use Rattle.label.proofs.Tests.{both, and-both}
 use Rattle.label.proofs.RowItems.{same-items, items-same}
 use Rattle.reader.specs.declared.Cursor.{Cursor}
 use Rattle.reader.specs.Cursors.{rowOf, nextCursor}
+use Rattle.leaves.proofs.Turns.{drop-past}
 use Rattle.reader.proofs.Walks.{Yields}
+use Rattle.reader.proofs.Standing.{rows-here, yields-next}
 use Rattle.writer.specs.Given.{Whole, rowFrom, alikeRow, alike}
 use Rattle.writer.proofs.GivenLaws.{rows-step, rows-past, next-whole}
 
@@ -145,61 +147,42 @@ not-as-many [] (s ∷ ss) other = refl
 not-as-many (r ∷ rs) [] other = refl
 not-as-many (r ∷ rs) (s ∷ ss) other = and-none (alikeRow r s) (not-as-many rs ss (λ same. other (ap suc same)))
 
--- The loop: the rows left are those that the cursor yields, and whether they are alike is whether all are
+-- The loop: the cursor yields the rows that are left, and whether they are alike is whether all are
 pub record Compared (m : Bytes) (all : List Row) (ns : List ℕ) (c : Cursor) (i : ℕ) : Type 0 where
   pub upTo : i ≤ length ns
   pub even : i % rowWidth ≡ 0
-  pub left : List Row
-  pub yields : Yields m c left
-  pub counted : length left ≡ length (rowsIn (drop i ns))
-  pub goes : alike left (rowsIn (drop i ns)) ≡ alike all (rowsIn ns)
+  pub counted : length all ≡ length ns / rowWidth
+  pub yields : Yields m c (drop (i / rowWidth) all)
+  pub goes : alike (drop (i / rowWidth) all) (rowsIn (drop i ns)) ≡ alike all (rowsIn ns)
 
 module _ (m : Bytes) (all : List Row) (ns : List ℕ) where
-  pub compared-first : (c : Cursor) → Yields m c all → length all ≡ length (rowsIn ns) → Compared m all ns c 0
-  compared-first c yields counted = record { upTo = omega arith; even = refl; left = all; yields = yields; counted = counted; goes = refl }
+  pub compared-first : (c : Cursor) → Yields m c all → length all ≡ length ns / rowWidth → Compared m all ns c 0
+  compared-first c yields counted = record { upTo = omega arith; even = refl; counted = counted; yields = yields; goes = refl }
 
   module _ (c : Cursor) (i : ℕ) (whole : Whole ns) (at : Compared m all ns c i) (more : i < length ns) where
     room : i + rowWidth ≤ length ns
     room = next-whole ns i whole (at .even) more
 
-    -- the row that the cursor stands at, and the others
-    record Here : Type 0 where
-      pub others : List Row
-      pub yields : Yields m (nextCursor m c) others
-      pub counted : length others ≡ length (rowsIn (drop (i + rowWidth) ns))
-      pub goes : (alikeRow (rowOf c) (rowFrom ns i) && alike others (rowsIn (drop (i + rowWidth) ns))) ≡ alike all (rowsIn ns)
+    row-more : i / rowWidth < length all
+    row-more = omega (arith, room)
 
-    here : Here
-    here = by (at .left) (at .yields) (at .counted) (at .goes)
-      where
-        by : (left : List Row) → Yields m c left → length left ≡ length (rowsIn (drop i ns)) → alike left (rowsIn (drop i ns)) ≡ alike all (rowsIn ns) → Here
-        by [] yields counted goes = absurd (omega (arith, ap length (rows-step ns i room)))
-        by (r ∷ rs) yields counted goes = record {
-          others = rs;
-          yields = yields .1;
-          counted = omega (arith, ap length (rows-step ns i room));
-          goes = ap (λ r. alikeRow r (rowFrom ns i) && alike rs (rowsIn (drop (i + rowWidth) ns))) (yields .0) ∙ sym (ap (alike (r ∷ rs)) (rows-step ns i room)) ∙ goes;
-        }
+    -- the row that the cursor stands at, and the others
+    goes-here : (alikeRow (rowOf c) (rowFrom ns i) && alike (drop (i / rowWidth + 1) all) (rowsIn (drop (i + rowWidth) ns))) ≡ alike all (rowsIn ns)
+    goes-here = sym (λ t. alike (rows-here m all c (i / rowWidth) (at .yields) row-more t) (rows-step ns i room t)) ∙ at .goes
 
     pub compared-differs : alikeRow (rowOf c) (rowFrom ns i) ≡ false → false ≡ alike all (rowsIn ns)
-    compared-differs differs = sym (ap (λ t. t && alike (here .others) (rowsIn (drop (i + rowWidth) ns))) differs) ∙ here .goes
+    compared-differs differs = rw differs at goes-here
 
     pub compared-next : alikeRow (rowOf c) (rowFrom ns i) ≡ true → Compared m all ns (nextCursor m c) (i + rowWidth)
-    compared-next same = record {
-      upTo = room;
-      even = omega (arith, at .even);
-      left = here .others;
-      yields = here .yields;
-      counted = here .counted;
-      goes = sym (ap (λ t. t && alike (here .others) (rowsIn (drop (i + rowWidth) ns))) same) ∙ here .goes;
-    }
+    compared-next same =
+        let next : i / rowWidth + 1 ≡ (i + rowWidth) / rowWidth = omega arith in
+        record {
+          upTo = room;
+          even = omega (arith, at .even);
+          counted = at .counted;
+          yields = rw next at (yields-next m all c (i / rowWidth) (at .yields) row-more);
+          goes = rw (same, next) at goes-here;
+        }
 
   pub compared-last : (c : Cursor) (i : ℕ) → Compared m all ns c i → length ns ≤ i → true ≡ alike all (rowsIn ns)
-  compared-last c i at past = by (at .left) (at .counted) (at .goes)
-    where
-      none : rowsIn (drop i ns) ≡ []
-      none = rows-past ns i past
-
-      by : (left : List Row) → length left ≡ length (rowsIn (drop i ns)) → alike left (rowsIn (drop i ns)) ≡ alike all (rowsIn ns) → true ≡ alike all (rowsIn ns)
-      by [] counted goes = sym (ap (alike []) none) ∙ goes
-      by (r ∷ rs) counted goes = absurd (omega (arith, ap length none))
+  compared-last c i at past = sym (λ t. alike (drop-past all (i / rowWidth) (omega arith) t) (rows-past ns i past t)) ∙ at .goes

@@ -1,5 +1,5 @@
--- `fill` puts each row behind the ones before it. The loop's invariant: the table holds the rows done and then what it held, and the rows left are those that
--- the cursor yields.
+-- `fill` puts each row behind the ones before it. The loop's invariant: the table holds the first i rows and then what it held, and the cursor yields the rows
+-- from number i on.
 use Prim.Native.Nat.{_+_, _*_, _<_, _-_, _≤_}
 use mathlib.Core.Path.{sym, subst}
 use native.Mathlib.Omega.{arith}
@@ -16,7 +16,7 @@ use Rattle.reader.proofs.fill.Statement.{statement}
 use Rattle.reader.proofs.fill.Tie as tie
 
 abbrev Inv-loop : tie.InvT-loop
-Inv-loop m rows table₀ c₀ i₀ table c i = (i ≤ rows) × Filled m (rowsRead (reading edition2005 m)) table₀ table c i
+Inv-loop m rows table₀ c₀ i₀ table c i = Filled m (rowsRead (reading edition2005 m)) table₀ table c i
 
 abbrev μ-loop : tie.MeasureT-loop
 μ-loop m rows table₀ c₀ i₀ table c i = rows - i
@@ -29,7 +29,7 @@ loop-holds c =
     let m = c .before .before .before .args .m .now in
     let all = rowsRead (reading edition2005 m) in
     let old = c .before .before .before .args .table .now in
-    (search needs, subst (λ (at : Cursor). Filled m all old old at 0) (sym (c .first .ensures)) (filled-first m all old (walked m)))
+    subst (λ (at : Cursor). Filled m all old old at 0) (sym (c .first .ensures)) (filled-first m all old (walked m .yields))
 
 mul-put-row : tie.Need-mul-put-row Inv-loop μ-loop
 mul-put-row c = search needs
@@ -42,8 +42,8 @@ put-row-requires c κs =
     let roomy : rowWidth * length all ≤ length old = omega arith in
     let at = c .before .before .loop in
     let more : at .i < length all = omega (arith, c .before .loop-test .taken) in
-    let long = filled-length m all old (at .table) (at .c) (at .i) (at .inv .1) roomy in
-    record { roomy = omega arith; inside = filled-inside m all old (at .table) (at .c) (at .i) (at .inv .1) roomy more }
+    let long = filled-length m all old (at .table) (at .c) (at .i) (at .inv) roomy in
+    record { roomy = omega arith; inside = filled-inside m all old (at .table) (at .c) (at .i) (at .inv) roomy more (walked m .inside) }
 
 advance-requires : tie.Need-advance-requires Inv-loop μ-loop
 advance-requires c κs = search needs
@@ -61,11 +61,9 @@ loop-again c =
     let old = c .before .before .before .before .before .before .before .before .before .before .args .table .now in
     let roomy : rowWidth * length all ≤ length old = omega arith in
     let at = c .before .before .before .before .before .before .loop in
-    let more : at .i < length all = omega (arith, c .before .before .before .before .before .loop-test .taken) in (
-      search needs,
-      subst (λ (next : Cursor). Filled m all old (c .before .before .before .put-row .last .0) next (at .i + 1)) (sym (c .advance .ensures))
-          (filled-next m all old (at .table) (at .c) (at .i) (at .inv .1) roomy more (c .before .before .before .put-row .last .0) (c .before .before .before .put-row .ensures)),
-    )
+    let more : at .i < length all = omega (arith, c .before .before .before .before .before .loop-test .taken) in
+    subst (λ (next : Cursor). Filled m all old (c .before .before .before .put-row .last .0) next (at .i + 1)) (sym (c .advance .ensures))
+    (filled-next m all old (at .table) (at .c) (at .i) (at .inv) roomy more (c .before .before .before .put-row .last .0) (c .before .before .before .put-row .ensures))
 
 same-length : tie.Need-same-length Inv-loop μ-loop
 same-length c =
@@ -74,7 +72,7 @@ same-length c =
     let old = c .before .before .before .before .before .args .table .now in
     let roomy : rowWidth * length all ≤ length old = omega arith in
     let at = c .before .loop in
-    filled-length m all old (at .table) (at .c) (at .i) (at .inv .1) roomy
+    filled-length m all old (at .table) (at .c) (at .i) (at .inv) roomy
 
 returns : tie.Need-returns Inv-loop μ-loop
 returns c =
@@ -83,7 +81,7 @@ returns c =
     let old = c .before .before .before .before .before .args .table .now in
     let roomy : rowWidth * length all ≤ length old = omega arith in
     let at = c .before .loop in
-    filled-last m all old (at .table) (at .c) (at .i) (at .inv .1) roomy (omega (arith, c .loop-test .left))
+    filled-last m all old (at .table) (at .c) (at .i) (at .inv) roomy (omega (arith, c .loop-test .left))
 
 pub fill-spec : {M : Type 1} → statement M
 fill-spec =

@@ -41,7 +41,7 @@ loop-holds c =
     let m = args .m .now in
     let all = rowsRead (reading edition2005 m) in
     compared-first m all (args .rows .now) (c .first .result) (subst (λ (at : Cursor). Yields m at all) (sym (c .first .ensures)) (walked m .yields))
-    (sym (c .before .before .rows-of .ensures) ∙ c .before .if1 .left ∙ sym (rows-counted (args .rows .now)))
+    (sym (c .before .before .rows-of .ensures) ∙ c .before .if1 .left)
 
 like-requires : tie.Need-like-requires Inv-loop μ-loop
 like-requires c κs =
