@@ -18,7 +18,7 @@ use Rattle.label.specs.Writing.{rowsIn, inside, itemIn, itemsIn}
 use Rattle.label.proofs.Tests.{both}
 use Rattle.leaves.proofs.Turns.{drop-past, take-rest}
 use Rattle.writer.specs.Given.{Whole, rowFrom}
-use Rattle.writer.specs.Laying.{Put, Laying, marksBefore, renderedFrom, Ready, Stand}
+use Rattle.writer.specs.Laying.{Put, Laying, marksBefore, renderedFrom, Ready, Buffered}
 use Rattle.writer.proofs.GivenLaws.{rows-step, rows-past, next-whole, stands-so}
 
 -- an offset lies in a buffer or outside
@@ -155,7 +155,7 @@ pub record Turn (held : Bytes) (ns : List ℕ) (out : Bytes) (at i : ℕ) : Type
   pub laying : Laying (rendered edition2005 (itemsIn held ns)) (renderedFrom held ns i) at out
 
 module _ (held : Bytes) (ns : List ℕ) where
-  pub turn-first : (out : Bytes) → Stand held ns out → Turn held ns out 0 0
+  pub turn-first : (out : Bytes) → Buffered held ns out → Turn held ns out 0 0
   turn-first out h =
       let so = stands-so held ns (h .stand) in
       record { upTo = omega arith; even = refl; whole = so .whole; buffer = h .buffer; lie = so .lie; laying = laying-none held ns out }

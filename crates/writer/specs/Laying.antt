@@ -52,12 +52,6 @@ pub record Buffered (held : Bytes) (ns : List ℕ) (out : Bytes) : Type 0 where
   pub stand : rowsStand held ns ≡ true
   pub buffer : length out ≡ longest
 
--- the same, with one row or more
-pub record Stand (held : Bytes) (ns : List ℕ) (out : Bytes) : Type 0 where
-  pub stand : rowsStand held ns ≡ true
-  pub some : 0 < length ns
-  pub buffer : length out ≡ longest
-
 -- a message, or that there is none, as a number of a buffer's first bytes, 0 where there is none
 abbrev pub Composes : Option Bytes → ℕ → Bytes → Type 0
 Composes none r out = r ≡ 0

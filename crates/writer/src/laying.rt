@@ -5,7 +5,7 @@ use crate::marks::Marks;
 use crate::marks::between;
 use crate::marks::ending_of;
 use crate::marks::heading;
-ghost use Prim.Native.Nat.{_≤_};
+ghost use Prim.Native.Nat.{_≤_, _<_};
 ghost use mathlib.Core.Path.{_≡_};
 ghost use mathlib.Core.List.{[], _++_};
 ghost use lib.ListN.{length};
@@ -15,7 +15,7 @@ ghost use Rattle.label.specs.Rendered.{rendered};
 ghost use Rattle.label.specs.Writing.{itemIn, itemsIn};
 ghost use Rattle.writer.specs.Marks.{marksOf};
 ghost use Rattle.writer.specs.Given.{rowFrom};
-ghost use Rattle.writer.specs.Laying.{RowAt, Put, Laying, marksBefore, Ready, Stand};
+ghost use Rattle.writer.specs.Laying.{RowAt, Put, Laying, marksBefore, Ready, Buffered};
 
 // Puts bytes into a buffer from an offset on, and answers the offset behind them.
 fn put(out: &mut [u8], at: usize, new: &[u8]) -> usize
@@ -68,7 +68,7 @@ fn put_row(held: &[u8], rows: &[u32], i: usize, out: &mut [u8], at: usize) -> us
 
 // Lays out the message of the rows, and answers its length; one that lies outside the buffer where the message is longer.
 pub(crate) fn lay_out(held: &[u8], rows: &[u32], out: &mut [u8]) -> usize
-    requires { ⌜ Stand (now held) (now rows) (now out) ⌝ }
+    requires { ⌜ Buffered (now held) (now rows) (now out) × (0 < length (now rows)) ⌝ }
     ensures { λ r. ⌜ Laying (rendered edition2005 (itemsIn (now (held .entry)) (now (rows .entry)))) [] r (now (out .exit)) ⌝ }
 {
     let mut at = 0;

@@ -19,7 +19,7 @@ abbrev μ-loop : tie.MeasureT-loop
 loop-holds : tie.Need-loop-holds Inv-loop μ-loop
 loop-holds c =
     let args = c .before .before .before .args in
-    turn-first (args .held .now) (args .rows .now) (args .out .now) (c .before .before .before .pre)
+    turn-first (args .held .now) (args .rows .now) (args .out .now) (c .before .before .before .pre .0)
 
 put-row-requires : tie.Need-put-row-requires Inv-loop μ-loop
 put-row-requires c κs =
@@ -47,7 +47,7 @@ row-from-requires : tie.Need-row-from-requires Inv-loop μ-loop
 row-from-requires c κs =
     let args = c .before .before .before .before .before .args in
     let at = c .before .loop in
-    turn-last (args .held .now) (args .rows .now) (at .out) (at .at) (at .i) (at .inv) (c .before .before .before .before .before .pre .some) (c .loop-test .left)
+    turn-last (args .held .now) (args .rows .now) (at .out) (at .at) (at .i) (at .inv) (c .before .before .before .before .before .pre .1) (c .loop-test .left)
 
 ending-of-requires : tie.Need-ending-of-requires Inv-loop μ-loop
 ending-of-requires c κs = search needs
@@ -64,7 +64,7 @@ returns c =
     let at = c .before .before .before .before .before .before .before .loop in
     let row = c .before .before .before .before .before .row-from in
     let put = c .before .before .put-marks in
-    turn-ends (args .held .now) (args .rows .now) (at .out) (at .at) (at .i) (at .inv) (c .before .before .before .before .before .before .before .before .before .before .before .pre .some) (c .before .before .before .before .before .before .loop-test .left) (asRow (row .result)) (put .last .0) (put .result) (row .ensures)
+    turn-ends (args .held .now) (args .rows .now) (at .out) (at .at) (at .i) (at .inv) (c .before .before .before .before .before .before .before .before .before .before .before .pre .1) (c .before .before .before .before .before .before .loop-test .left) (asRow (row .result)) (put .last .0) (put .result) (row .ensures)
     (subst (λ (new : Bytes). Put (at .out) (at .at) new (put .last .0) (put .result)) (c .before .before .before .ending-of .ensures .1) (put .ensures))
 
 pub lay-out-spec : {M : Type 1} → statement M
