@@ -1,11 +1,10 @@
 -- `rules_hold` is `rulesOf`, an arm for each kind.
-use mathlib.Core.Path.{sym, ap, _∙_}
+use mathlib.Core.Path.{_∙_}
 use Rattle.label.specs.Bytes.{GS}
 use Rattle.label.specs.Pieces.{pieces}
 use Rattle.label.specs.Values.{version02, version96}
 use Rattle.label.specs.Elements.{element05, element06}
 use Rattle.label.specs.Segments.{tag, tag03}
-use Rattle.bodies.specs.Kinds.{rulesOf, separatorOf, pieceTest, everyFrom, fieldsOf, segmentsOf}
 use Rattle.bodies.proofs.RuleLaws.{fields-law, every-elements, segments-law, tag-no-us, tag03-no-us}
 use borrow.Author.Needs.{needs}
 use Rattle.bodies.proofs.rules_hold.Statement.{statement}
@@ -52,30 +51,36 @@ enum-told-7 c = search needs
 
 returns : tie.Need-returns
 returns c =
-    c .fields-hold .ensures ∙ ap (λ k. fieldsOf (pieceTest k) 15 (pieces (separatorOf k) (c .before .before .before .before .args .body .now)) (c .before .before .before .before .args .body .now)) (c .before .enum-told .given .1) ∙ fields-law version02 (c .before .before .before .before .args .body .now) ∙ sym (ap (λ k. rulesOf k (c .before .before .before .before .args .body .now)) (c .before .enum-told .given .1))
+    let is = c .before .enum-told .given .1 in
+    rw is (rw is at (c .fields-hold .ensures) ∙ fields-law version02 (c .before .before .before .before .args .body .now))
 
 returns-2 : tie.Need-returns-2
 returns-2 c =
-    c .fields-hold2 .ensures ∙ ap (λ k. fieldsOf (pieceTest k) 14 (pieces (separatorOf k) (c .before .before .before .before .args .body .now)) (c .before .before .before .before .args .body .now)) (c .before .enum-told2 .given .1) ∙ fields-law version96 (c .before .before .before .before .args .body .now) ∙ sym (ap (λ k. rulesOf k (c .before .before .before .before .args .body .now)) (c .before .enum-told2 .given .1))
+    let is = c .before .enum-told2 .given .1 in
+    rw is (rw is at (c .fields-hold2 .ensures) ∙ fields-law version96 (c .before .before .before .before .args .body .now))
 
 returns-3 : tie.Need-returns-3
 returns-3 c =
-    c .segments-hold .ensures ∙ ap (λ k. segmentsOf (pieceTest k) (separatorOf k) (c .before .before .before .before .args .body .now)) (c .before .enum-told3 .given .1) ∙ segments-law tag03 (c .before .before .before .before .args .body .now) tag03-no-us ∙ sym (ap (λ k. rulesOf k (c .before .before .before .before .args .body .now)) (c .before .enum-told3 .given .1))
+    let is = c .before .enum-told3 .given .1 in
+    rw is (rw is at (c .segments-hold .ensures) ∙ segments-law tag03 (c .before .before .before .before .args .body .now) tag03-no-us)
 
 returns-4 : tie.Need-returns-4
 returns-4 c =
-    c .segments-hold2 .ensures ∙ ap (λ k. segmentsOf (pieceTest k) (separatorOf k) (c .before .before .before .before .args .body .now)) (c .before .enum-told4 .given .1) ∙ segments-law tag (c .before .before .before .before .args .body .now) tag-no-us ∙ sym (ap (λ k. rulesOf k (c .before .before .before .before .args .body .now)) (c .before .enum-told4 .given .1))
+    let is = c .before .enum-told4 .given .1 in
+    rw is (rw is at (c .segments-hold2 .ensures) ∙ segments-law tag (c .before .before .before .before .args .body .now) tag-no-us)
 
 returns-5 : tie.Need-returns-5
 returns-5 c =
-    c .pieces-hold .ensures ∙ ap (λ k. everyFrom (pieceTest k) 0 (pieces (separatorOf k) (c .before .before .before .before .args .body .now))) (c .before .enum-told5 .given .1) ∙ every-elements element05 0 (pieces GS (c .before .before .before .before .args .body .now)) ∙ sym (ap (λ k. rulesOf k (c .before .before .before .before .args .body .now)) (c .before .enum-told5 .given .1))
+    let is = c .before .enum-told5 .given .1 in
+    rw is (rw is at (c .pieces-hold .ensures) ∙ every-elements element05 0 (pieces GS (c .before .before .before .before .args .body .now)))
 
 returns-6 : tie.Need-returns-6
 returns-6 c =
-    c .pieces-hold2 .ensures ∙ ap (λ k. everyFrom (pieceTest k) 0 (pieces (separatorOf k) (c .before .before .before .before .args .body .now))) (c .before .enum-told6 .given .1) ∙ every-elements element06 0 (pieces GS (c .before .before .before .before .args .body .now)) ∙ sym (ap (λ k. rulesOf k (c .before .before .before .before .args .body .now)) (c .before .enum-told6 .given .1))
+    let is = c .before .enum-told6 .given .1 in
+    rw is (rw is at (c .pieces-hold2 .ensures) ∙ every-elements element06 0 (pieces GS (c .before .before .before .before .args .body .now)))
 
 returns-7 : tie.Need-returns-7
-returns-7 c = sym (ap (λ k. rulesOf k (c .before .before .before .args .body .now)) (c .enum-told7 .given .1))
+returns-7 c = rw (c .enum-told7 .given .1)
 
 pub rules-hold-spec : {M : Type 1} → statement M
 rules-hold-spec =

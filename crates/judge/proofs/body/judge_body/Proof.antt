@@ -2,8 +2,6 @@
 use mathlib.Core.Path.{sym, ap, _∙_}
 use Prim.Native.Nat.{_-_, _+_}
 use borrow.Author.Tests.{not-true, not-false}
-use lib.ListN.{take, drop}
-use Rattle.label.specs.Bytes.{every}
 use Rattle.judge.specs.declared.Found.the-variants.{Closed}
 use Rattle.judge.proofs.BodyLaws.{rows-of-part, body-none, body-byte, body-rule, body-closed}
 use borrow.Author.Needs.{needs}
@@ -14,7 +12,10 @@ find-far-requires : tie.Need-find-far-requires
 find-far-requires c κs = search needs
 
 returns : tie.Need-returns
-returns c = body-none (c .before .before .before .args .k) (c .before .before .before .args .before) (c .before .before .before .args .m .now) (c .before .before .before .args .at) (c .before .find-far .result) (c .before .before .before .pre .1) (c .before .find-far .ensures) (c .if1 .taken)
+returns c =
+    let args = c .before .before .before .args in
+    let found = c .before .find-far in
+    body-none (args .k) (args .before) (args .m .now) (args .at) (found .result) (c .before .before .before .pre .1) (found .ensures) (c .if1 .taken)
 
 sub-body : tie.Need-sub-body
 sub-body c = search needs
@@ -32,13 +33,21 @@ all-in-requires : tie.Need-all-in-requires
 all-in-requires c κs = search needs
 
 returns-2 : tie.Need-returns-2
-returns-2 c = body-byte (c .before .before .before .before .before .before .before .args .k) (c .before .before .before .before .before .before .before .args .before) (c .before .before .before .before .before .before .before .args .m .now) (c .before .before .before .before .before .before .before .args .at) (c .before .before .before .before .before .find-far .result) (c .before .before .before .before .before .before .before .pre .1) (c .before .before .before .before .before .find-far .ensures) (c .before .before .before .before .if1 .left) (ap (λ class. every class (take (c .before .before .before .before .before .find-far .result - c .before .before .before .before .before .before .before .args .at) (drop (c .before .before .before .before .before .before .before .args .at) (c .before .before .before .before .before .before .before .args .m .now)))) (sym (c .before .before .permitted .ensures)) ∙ sym (c .before .all-in .ensures) ∙ not-true _ (c .if2 .taken))
+returns-2 c =
+    let args = c .before .before .before .before .before .before .before .args in
+    let found = c .before .before .before .before .before .find-far in
+    body-byte (args .k) (args .before) (args .m .now) (args .at) (found .result) (c .before .before .before .before .before .before .before .pre .1) (found .ensures) (c .before .before .before .before .if1 .left)
+    (sym (rw (c .before .before .permitted .ensures) at (c .before .all-in .ensures)) ∙ not-true _ (c .if2 .taken))
 
 rules-hold-requires : tie.Need-rules-hold-requires
 rules-hold-requires c κs = search needs
 
 returns-3 : tie.Need-returns-3
-returns-3 c = body-rule (c .before .before .before .before .before .before .before .before .before .args .k) (c .before .before .before .before .before .before .before .before .before .args .before) (c .before .before .before .before .before .before .before .before .before .args .m .now) (c .before .before .before .before .before .before .before .before .before .args .at) (c .before .before .before .before .before .before .before .find-far .result) (c .before .before .before .before .before .before .before .before .before .pre .1) (c .before .before .before .before .before .before .before .find-far .ensures) (c .before .before .before .before .before .before .if1 .left) (ap (λ class. every class (take (c .before .before .before .before .before .before .before .find-far .result - c .before .before .before .before .before .before .before .before .before .args .at) (drop (c .before .before .before .before .before .before .before .before .before .args .at) (c .before .before .before .before .before .before .before .before .before .args .m .now)))) (sym (c .before .before .before .before .permitted .ensures)) ∙ sym (c .before .before .before .all-in .ensures) ∙ not-false _ (c .before .before .if2 .left)) (sym (c .before .rules-hold .ensures) ∙ not-true _ (c .if3 .taken))
+returns-3 c =
+    let args = c .before .before .before .before .before .before .before .before .before .args in
+    let found = c .before .before .before .before .before .before .before .find-far in
+    body-rule (args .k) (args .before) (args .m .now) (args .at) (found .result) (c .before .before .before .before .before .before .before .before .before .pre .1) (found .ensures) (c .before .before .before .before .before .before .if1 .left)
+    (sym (rw (c .before .before .before .before .permitted .ensures) at (c .before .before .before .all-in .ensures)) ∙ not-false _ (c .before .before .if2 .left)) (sym (c .before .rules-hold .ensures) ∙ not-true _ (c .if3 .taken))
 
 add-t7 : tie.Need-add-t7
 add-t7 c = search needs
@@ -49,16 +58,17 @@ rows-in-requires c κs = search needs
 add-t17 : tie.Need-add-t17
 add-t17 c =
     let is = c .rows-in .ensures in
-    let n = c .before .before .before .before .before .before .before .before .find-far .result - c .before .before .before .before .before .before .before .before .before .before .args .at in
-    let few =
-    rows-of-part (c .before .before .before .before .before .before .before .before .before .before .args .k) (c .before .before .before .before .before .before .before .before .before .before .args .m .now)
-    (c .before .before .before .before .before .before .before .before .before .before .args .at) n in
+    let args = c .before .before .before .before .before .before .before .before .before .before .args in
+    let few = rows-of-part (args .k) (args .m .now) (args .at) (c .before .before .before .before .before .before .before .before .find-far .result - args .at) in
     search needs
 
 returns-4 : tie.Need-returns-4
 returns-4 c =
-    ap (Closed (c .before .before .before .before .before .before .before .before .find-far .result + 1)) (ap (λ n. c .before .before .before .before .before .before .before .before .before .before .args .before + n) (c .rows-in .ensures))
-    ∙ body-closed (c .before .before .before .before .before .before .before .before .before .before .args .k) (c .before .before .before .before .before .before .before .before .before .before .args .before) (c .before .before .before .before .before .before .before .before .before .before .args .m .now) (c .before .before .before .before .before .before .before .before .before .before .args .at) (c .before .before .before .before .before .before .before .before .find-far .result) (c .before .before .before .before .before .before .before .before .before .before .pre .1) (c .before .before .before .before .before .before .before .before .find-far .ensures) (c .before .before .before .before .before .before .before .if1 .left) (ap (λ class. every class (take (c .before .before .before .before .before .before .before .before .find-far .result - c .before .before .before .before .before .before .before .before .before .before .args .at) (drop (c .before .before .before .before .before .before .before .before .before .before .args .at) (c .before .before .before .before .before .before .before .before .before .before .args .m .now)))) (sym (c .before .before .before .before .before .permitted .ensures)) ∙ sym (c .before .before .before .before .all-in .ensures) ∙ not-false _ (c .before .before .before .if2 .left)) (sym (c .before .before .rules-hold .ensures) ∙ not-false _ (c .before .if3 .left))
+    let args = c .before .before .before .before .before .before .before .before .before .before .args in
+    let found = c .before .before .before .before .before .before .before .before .find-far in
+    ap (λ n. Closed (found .result + 1) (args .before + n)) (c .rows-in .ensures)
+    ∙ body-closed (args .k) (args .before) (args .m .now) (args .at) (found .result) (c .before .before .before .before .before .before .before .before .before .before .pre .1) (found .ensures) (c .before .before .before .before .before .before .before .if1 .left)
+    (sym (rw (c .before .before .before .before .before .permitted .ensures) at (c .before .before .before .before .all-in .ensures)) ∙ not-false _ (c .before .before .before .if2 .left)) (sym (c .before .before .rules-hold .ensures) ∙ not-false _ (c .before .if3 .left))
 
 pub judge-body-spec : {M : Type 1} → statement M
 judge-body-spec =
