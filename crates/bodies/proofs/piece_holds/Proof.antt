@@ -1,7 +1,5 @@
 -- `piece_holds` is `pieceTest`, an arm for each kind.
-use mathlib.Core.Path.{sym, ap, _∙_}
 use Rattle.label.specs.Fields.{field}
-use Rattle.bodies.specs.Kinds.{pieceTest}
 use borrow.Author.Needs.{needs}
 use Rattle.bodies.proofs.piece_holds.Statement.{statement}
 use Rattle.bodies.proofs.piece_holds.Tie as tie
@@ -47,26 +45,26 @@ enum-told-7 c = search needs
 
 returns : tie.Need-returns
 unfolding field
-returns c = c .field-holds .ensures ∙ sym (ap (λ k. pieceTest k (c .before .before .before .before .args .i) (c .before .before .before .before .args .p .now)) (c .before .enum-told .given .1))
+returns c = rw (c .before .enum-told .given .1) (c .field-holds .ensures)
 
 returns-2 : tie.Need-returns-2
 unfolding field
-returns-2 c = c .field-holds2 .ensures ∙ sym (ap (λ k. pieceTest k (c .before .before .before .before .args .i) (c .before .before .before .before .args .p .now)) (c .before .enum-told2 .given .1))
+returns-2 c = rw (c .before .enum-told2 .given .1) (c .field-holds2 .ensures)
 
 returns-3 : tie.Need-returns-3
-returns-3 c = c .segment-03 .ensures ∙ sym (ap (λ k. pieceTest k (c .before .before .before .before .args .i) (c .before .before .before .before .args .p .now)) (c .before .enum-told3 .given .1))
+returns-3 c = rw (c .before .enum-told3 .given .1) (c .segment-03 .ensures)
 
 returns-4 : tie.Need-returns-4
-returns-4 c = c .segment-04 .ensures ∙ sym (ap (λ k. pieceTest k (c .before .before .before .before .args .i) (c .before .before .before .before .args .p .now)) (c .before .enum-told4 .given .1))
+returns-4 c = rw (c .before .enum-told4 .given .1) (c .segment-04 .ensures)
 
 returns-5 : tie.Need-returns-5
-returns-5 c = c .element-05 .ensures ∙ sym (ap (λ k. pieceTest k (c .before .before .before .before .args .i) (c .before .before .before .before .args .p .now)) (c .before .enum-told5 .given .1))
+returns-5 c = rw (c .before .enum-told5 .given .1) (c .element-05 .ensures)
 
 returns-6 : tie.Need-returns-6
-returns-6 c = c .element-06 .ensures ∙ sym (ap (λ k. pieceTest k (c .before .before .before .before .args .i) (c .before .before .before .before .args .p .now)) (c .before .enum-told6 .given .1))
+returns-6 c = rw (c .before .enum-told6 .given .1) (c .element-06 .ensures)
 
 returns-7 : tie.Need-returns-7
-returns-7 c = sym (ap (λ k. pieceTest k (c .before .before .before .args .i) (c .before .before .before .args .p .now)) (c .enum-told7 .given .1))
+returns-7 c = rw (c .enum-told7 .given .1)
 
 pub piece-holds-spec : {M : Type 1} → statement M
 piece-holds-spec =

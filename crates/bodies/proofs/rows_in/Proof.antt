@@ -1,6 +1,4 @@
 -- `rows_in` is `rowsOfBody`, an arm for each kind.
-use mathlib.Core.Path.{sym, ap, _∙_}
-use Rattle.bodies.specs.Kinds.{rowsOfBody}
 use borrow.Author.Needs.{needs}
 use Rattle.bodies.proofs.rows_in.Statement.{statement}
 use Rattle.bodies.proofs.rows_in.Tie as tie
@@ -45,25 +43,25 @@ enum-told-7 : tie.Need-enum-told-7
 enum-told-7 c = search needs
 
 returns : tie.Need-returns
-returns c = c .piece-rows .ensures ∙ sym (ap (λ k. rowsOfBody k (c .before .before .before .before .args .body .now)) (c .before .enum-told .given .1))
+returns c = rw (c .before .enum-told .given .1) (c .piece-rows .ensures)
 
 returns-2 : tie.Need-returns-2
-returns-2 c = c .piece-rows2 .ensures ∙ sym (ap (λ k. rowsOfBody k (c .before .before .before .before .args .body .now)) (c .before .enum-told2 .given .1))
+returns-2 c = rw (c .before .enum-told2 .given .1) (c .piece-rows2 .ensures)
 
 returns-3 : tie.Need-returns-3
-returns-3 c = c .segment-rows .ensures ∙ sym (ap (λ k. rowsOfBody k (c .before .before .before .before .args .body .now)) (c .before .enum-told3 .given .1))
+returns-3 c = rw (c .before .enum-told3 .given .1) (c .segment-rows .ensures)
 
 returns-4 : tie.Need-returns-4
-returns-4 c = c .segment-rows2 .ensures ∙ sym (ap (λ k. rowsOfBody k (c .before .before .before .before .args .body .now)) (c .before .enum-told4 .given .1))
+returns-4 c = rw (c .before .enum-told4 .given .1) (c .segment-rows2 .ensures)
 
 returns-5 : tie.Need-returns-5
-returns-5 c = c .piece-rows3 .ensures ∙ sym (ap (λ k. rowsOfBody k (c .before .before .before .before .args .body .now)) (c .before .enum-told5 .given .1))
+returns-5 c = rw (c .before .enum-told5 .given .1) (c .piece-rows3 .ensures)
 
 returns-6 : tie.Need-returns-6
-returns-6 c = c .piece-rows4 .ensures ∙ sym (ap (λ k. rowsOfBody k (c .before .before .before .before .args .body .now)) (c .before .enum-told6 .given .1))
+returns-6 c = rw (c .before .enum-told6 .given .1) (c .piece-rows4 .ensures)
 
 returns-7 : tie.Need-returns-7
-returns-7 c = sym (ap (λ k. rowsOfBody k (c .before .before .before .args .body .now)) (c .enum-told7 .given .1))
+returns-7 c = rw (c .enum-told7 .given .1)
 
 pub rows-in-spec : {M : Type 1} → statement M
 rows-in-spec =

@@ -1,10 +1,8 @@
 -- `in_class` is `classOf`: each arm tests what the class's definition says.
-use mathlib.Core.Path.{sym, ap}
 use borrow.Author.Needs.{needs}
 use Rattle.label.specs.Bytes.{control, between, plain, digit, capital, capitalOrDigit, below80}
 use Rattle.label.specs.Formats.{restByte, textByte}
 use Rattle.label.specs.ReadEnvelope.{plainOrGS, segmentByte}
-use Rattle.leaves.specs.Classes.{classOf}
 use Rattle.leaves.proofs.in_class.Statement.{statement}
 use Rattle.leaves.proofs.in_class.Tie as tie
 
@@ -31,31 +29,31 @@ enum-told-7 c = search needs
 
 returns : tie.Need-returns
 unfolding between plain
-returns c = sym (ap (λ k. classOf k (c .before .before .args .b)) (c .enum-told .given .1))
+returns c = rw (c .enum-told .given .1)
 
 returns-2 : tie.Need-returns-2
 unfolding digit between
-returns-2 c = sym (ap (λ k. classOf k (c .before .before .args .b)) (c .enum-told2 .given .1))
+returns-2 c = rw (c .enum-told2 .given .1)
 
 returns-3 : tie.Need-returns-3
 unfolding capitalOrDigit capital digit between
-returns-3 c = sym (ap (λ k. classOf k (c .before .before .args .b)) (c .enum-told3 .given .1))
+returns-3 c = rw (c .enum-told3 .given .1)
 
 returns-4 : tie.Need-returns-4
 unfolding plainOrGS plain between
-returns-4 c = sym (ap (λ k. classOf k (c .before .before .args .b)) (c .enum-told4 .given .1))
+returns-4 c = rw (c .enum-told4 .given .1)
 
 returns-5 : tie.Need-returns-5
 unfolding segmentByte plain between
-returns-5 c = sym (ap (λ k. classOf k (c .before .before .args .b)) (c .enum-told5 .given .1))
+returns-5 c = rw (c .enum-told5 .given .1)
 
 returns-6 : tie.Need-returns-6
 unfolding textByte below80 control
-returns-6 c = sym (ap (λ k. classOf k (c .before .before .args .b)) (c .enum-told6 .given .1))
+returns-6 c = rw (c .enum-told6 .given .1)
 
 returns-7 : tie.Need-returns-7
 unfolding restByte below80
-returns-7 c = sym (ap (λ k. classOf k (c .before .before .args .b)) (c .enum-told7 .given .1))
+returns-7 c = rw (c .enum-told7 .given .1)
 
 pub in-class-spec : {M : Type 1} → statement M
 in-class-spec =
