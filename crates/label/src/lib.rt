@@ -134,14 +134,21 @@ const LIMITS: [[Limit; 15]; 2] = [
     ],
 ];
 
-// The limits of a field, by version (0 for 02, 1 for 96) and field (0 for field No. 1); 0 and 0 where there is none.
+// The limits of a field, by version (0 for 02, 1 for 96) and field (0 for field No. 1); 0 and 0 where there is none. The version's
+// row is taken first: with both indices at once the whole table would be copied at each call.
 pub fn limits_of(version: usize, field: usize) -> Limit
     ensures { λ r. ⌜ r ≡ limitOf version field ⌝ }
 {
-    if version < 2 {
-        if field < 15 {
-            return LIMITS[version][field];
-        }
+    if 15 <= field {
+        return Limit(0, 0);
+    }
+    if version == 0 {
+        let row = LIMITS[0];
+        return row[field];
+    }
+    if version == 1 {
+        let row = LIMITS[1];
+        return row[field];
     }
     Limit(0, 0)
 }

@@ -22,28 +22,47 @@ no-such-field version field past =
 no-such-version : (version field : ℕ) → 2 ≤ version → limitOf version field ≡ 0 to 0
 no-such-version version field past = ap (λ row. getD row field (0 to 0)) (List·getD-eq-default limits [] past)
 
+returns : tie.Need-returns
+returns c = sym (no-such-field (c .before .args .version) (c .before .args .field) (c .if1 .taken))
+
+array-copy-out-row : tie.Need-array-copy-out-row
+array-copy-out-row c = search needs
+
 mul-result : tie.Need-mul-result
 mul-result c = search needs
+
+array-copy-out-result : tie.Need-array-copy-out-result
+array-copy-out-result c = search needs
+
+returns-2 : tie.Need-returns-2
+returns-2 c = ap (λ v. limitOf v (c .before .before .before .before .args .field)) (sym (c .before .before .if2 .taken))
+
+array-copy-out-row-2 : tie.Need-array-copy-out-row-2
+array-copy-out-row-2 c = search needs
 
 mul-result-2 : tie.Need-mul-result-2
 mul-result-2 c = search needs
 
-index-1-result : tie.Need-index-1-result
-index-1-result c = search needs
-
-index-2-result : tie.Need-index-2-result
-index-2-result c = search needs
-
-returns : tie.Need-returns
-returns c = search needs
-
-returns-2 : tie.Need-returns-2
-returns-2 c = sym (no-such-field (c .before .before .args .version) _ (c .if2 .left))
+array-copy-out-result-2 : tie.Need-array-copy-out-result-2
+array-copy-out-result-2 c = search needs
 
 returns-3 : tie.Need-returns-3
-returns-3 c = sym (no-such-version _ _ (c .if1 .left))
+returns-3 c = ap (λ v. limitOf v (c .before .before .before .before .before .args .field)) (sym (c .before .before .if3 .taken))
+
+returns-4 : tie.Need-returns-4
+returns-4 c = sym (no-such-version (c .before .before .before .args .version) (c .before .before .before .args .field) (omega (arith, c .before .if2 .left, c .if3 .left)))
 
 pub limits-of-spec : {M : Type 1} → statement M
 limits-of-spec =
     tie.close
-    (tie.spec mul-result mul-result-2 index-1-result index-2-result returns returns-2 returns-3)
+    (tie.spec
+    returns
+    array-copy-out-row
+    mul-result
+    array-copy-out-result
+    returns-2
+    array-copy-out-row-2
+    mul-result-2
+    array-copy-out-result-2
+    returns-3
+    returns-4)
