@@ -55,7 +55,7 @@ fn separator(k: Kind) -> u8
 }
 
 // What is asked of the piece with an index.
-fn piece_holds(k: Kind, i: usize, p: &[u8]) -> bool
+pub fn piece_holds(k: Kind, i: usize, p: &[u8]) -> bool
     ensures { λ r. ⌜ r ≡ pieceTest k i (now (p .entry)) ⌝ }
 {
     match k {

@@ -66,7 +66,7 @@ pub take-rest : {A : Type 0} (s : List A) (i : ℕ) → take (length s - i) (dro
 take-rest s i = take-all (length s - i) (drop i s) (omega (arith, length-drop i s))
 
 -- bytes that lack c in front of others
-seek-behind : (c : ℕ) (p rest : Bytes) → every (λ b. not (eqb b c)) p ≡ true → seek c (p ++ rest) ≡ length p + seek c rest
+pub seek-behind : (c : ℕ) (p rest : Bytes) → every (λ b. not (eqb b c)) p ≡ true → seek c (p ++ rest) ≡ length p + seek c rest
 seek-behind c [] rest lacks = omega arith
 seek-behind c (b ∷ p) rest lacks =
     let k = both (not (eqb b c)) (every (λ b. not (eqb b c)) p) lacks in
@@ -80,7 +80,7 @@ seek-block c s i n inside lacks =
     ∙ seek-behind c (take n (drop i s)) (drop n (drop i s)) lacks
     ∙ (λ j. long j + seek c (drop-drop n i s j))
 
-tally-behind : (c : ℕ) (p rest : Bytes) → tallyOf c (p ++ rest) ≡ tallyOf c p + tallyOf c rest
+pub tally-behind : (c : ℕ) (p rest : Bytes) → tallyOf c (p ++ rest) ≡ tallyOf c p + tallyOf c rest
 tally-behind c [] rest = omega arith
 tally-behind c (b ∷ p) rest = by (eqb b c) (tally-behind c p rest)
   where

@@ -1,4 +1,4 @@
-pub mod Shapes
-pub mod Cursors
-pub mod Tables
-pub mod Stretches
+pub mod Quick
+pub mod Counted
+pub mod Segments
+pub mod Transport

@@ -1,62 +1,53 @@
 // The part of a message that a row names, handed back uncopied.
-use crate::Cursor;
-use crate::advance;
-use crate::first;
-use label::Reading;
-ghost use Prim.Native.Nat.{_+_, _<_};
+use crate::quick::Swept;
+use crate::quick::Wanted;
+use crate::quick::sweep;
+use exact::Span;
+ghost use Prim.Native.Nat.{_+_};
 ghost use mathlib.Core.Path.{_≡_};
-ghost use lib.ListN.{length, take, drop};
+ghost use lib.ListN.{take, drop};
 ghost use Rattle.label.specs.Formats.{edition2005};
-ghost use Rattle.label.specs.ReadMessage.{reading};
-ghost use Rattle.label.specs.Answer.{rowsRead};
 ghost use Rattle.label.specs.Part.{partOf};
-ghost use Rattle.reader.specs.Stretches.{Lies};
+ghost use Rattle.exact.specs.Stretches.{Lies};
+ghost use Rattle.reader.specs.Quick.{OneKept};
 
-// A stretch of a message.
-pub struct Span {
-    pub start: usize,
-    pub length: usize,
-}
-
-// How many rows are read in a message, in a refused one none.
-pub fn rows_of(m: &[u8]) -> usize
-    ensures { λ r. ⌜ r ≡ length (rowsRead (reading edition2005 (now (m .entry)))) ⌝ }
+// A noted number as an offset or a length.
+fn offset_of(x: u16) -> usize
+    ensures { λ r. ⌜ r ≡ x ⌝ }
 {
-    let judged = judge::judge(m);
-    match judged {
-        Reading::Accepted(counts) => counts.rows,
-        Reading::Refused(refusal) => 0,
-    }
+    x as usize
 }
 
-// The walk to a row that the message has.
-fn cursor_at(m: &[u8], row: usize) -> Cursor
-    requires { ⌜ row < length (rowsRead (reading edition2005 (now m))) ⌝ }
+// Where a row's part lies, of a message that was swept and whose row of that number, if it has one, is noted.
+fn span_noted(m: &[u8], row: usize, rows: usize, note: &[u16]) -> Span
+    requires { ⌜ OneKept (now m) row rows (now note) ⌝ }
     ensures { λ r. ⌜ Lies (now (m .entry)) row (r .start) (r .length) ⌝ }
 {
-    let mut c = first(m);
-    let mut i = 0;
-    while i < row {
-        c = advance(m, c);
-        i += 1;
+    if row < rows {
+        return Span {
+            start: offset_of(note[2]),
+            length: offset_of(note[3]),
+        };
     }
-    c
+    exact::nowhere()
 }
 
-// Where a row's part lies; the empty start where there is no such row.
+// Where a row's part lies; the empty start where there is no such row. The quick path notes this row alone.
 pub fn span_of(m: &[u8], row: usize) -> Span
     ensures { λ r. ⌜ Lies (now (m .entry)) row (r .start) (r .length) ⌝ }
 {
-    if row < rows_of(m) {
-        let c = cursor_at(m, row);
-        return Span {
-            start: c.start,
-            length: c.length,
-        };
-    }
-    Span {
-        start: 0,
-        length: 0,
+    let mut note = [0u16; 4];
+    let swept = sweep(
+        m,
+        Wanted {
+            from: row,
+            most: 1024,
+        },
+        &mut note,
+    );
+    match swept {
+        Swept::Good(counts) => span_noted(m, row, counts.rows, &note),
+        _ => exact::span_exactly(m, row),
     }
 }
 

@@ -18,11 +18,11 @@ use Rattle.label.specs.Rendered.{marksBetween, renderedAfter, rendered}
 use Rattle.label.specs.Writing.{rowsIn, inside, itemIn, sameItems}
 use Rattle.label.proofs.Tests.{both, and-both}
 use Rattle.label.proofs.RowItems.{same-items, items-same}
-use Rattle.reader.specs.declared.Cursor.{Cursor}
-use Rattle.reader.specs.Cursors.{rowOf, nextCursor}
+use Rattle.walk.specs.declared.Cursor.{Cursor}
+use Rattle.walk.specs.Cursors.{rowOf, nextCursor}
 use Rattle.leaves.proofs.Turns.{drop-past}
-use Rattle.reader.proofs.Walks.{Yields}
-use Rattle.reader.proofs.Standing.{rows-here, yields-next}
+use Rattle.walk.proofs.Walks.{Yields}
+use Rattle.exact.proofs.Standing.{rows-here, yields-next}
 use Rattle.writer.specs.Given.{Whole, rowFrom, alikeRow, alike}
 use Rattle.writer.proofs.GivenLaws.{rows-step, rows-past, next-whole}
 

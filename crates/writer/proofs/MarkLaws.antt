@@ -7,10 +7,10 @@ use types.Run.{OneOf, miss}
 use Rattle.label.specs.Bytes.{EOT, GS}
 use Rattle.label.specs.Formats.{Rule, asFields, asRest, asSegments, asElements, asText, asCounted, unknown}
 use Rattle.label.specs.Rendered.{beforeValue, closing, ending}
-use Rattle.reader.specs.Shapes.{shapeOf}
-use Rattle.reader.specs.declared.Shape.{Shape}
-use Rattle.reader.specs.declared.Shape.the-variants.{Rest, Segments}
-use Rattle.reader.proofs.Shape as shape
+use Rattle.walk.specs.Shapes.{shapeOf}
+use Rattle.walk.specs.declared.Shape.{Shape}
+use Rattle.walk.specs.declared.Shape.the-variants.{Rest, Segments}
+use Rattle.walk.proofs.Shape as shape
 
 pub before-segments : (rule : Rule) → shapeOf rule ≡ Segments → [] ≡ beforeValue rule
 before-segments asFields is = cc

@@ -1,13 +1,13 @@
 // The rows that are given: whether they stand, one of them, and whether a cursor's row is like one.
 use label::MOST_ROWS;
-use reader::Cursor;
+use walk::Cursor;
 ghost use mathlib.Core.Path.{_≡_};
 ghost use Prim.Native.Nat.{_+_, _≤_};
 ghost use lib.ListN.{length};
 ghost use Rattle.label.specs.Bytes.{every};
 ghost use Rattle.label.specs.Limits.{rowWidth};
 ghost use Rattle.label.specs.Writing.{rowsIn, inside, rowsStand};
-ghost use Rattle.reader.specs.Cursors.{rowOf};
+ghost use Rattle.walk.specs.Cursors.{rowOf};
 ghost use Rattle.writer.specs.Given.{Whole, asRow, rowFrom, alikeRow};
 
 // A row's four numbers.
@@ -67,6 +67,6 @@ pub(crate) fn like(c: Cursor, rows: &[u32], at: usize) -> bool
 {
     let row = row_from(rows, at);
     let stage = c.stage;
-    let kind = reader::kind_of(stage);
+    let kind = walk::kind_of(stage);
     (kind == row.kind) & (c.format == row.format) & (c.length == row.length as usize)
 }

@@ -22,16 +22,16 @@ fn same_rows(m: &[u8], rows: &[u32]) -> bool
     requires { ⌜ Whole (now rows) ⌝ }
     ensures { λ r. ⌜ r ≡ alike (rowsRead (reading edition2005 (now (m .entry)))) (rowsIn (now (rows .entry))) ⌝ }
 {
-    if reader::rows_of(m) != rows.len() / 4 {
+    if exact::rows_of(m) != rows.len() / 4 {
         return false;
     }
-    let mut c = reader::first(m);
+    let mut c = walk::first(m);
     let mut i = 0;
     while i < rows.len() {
         if !given::like(c, rows, i) {
             return false;
         }
-        c = reader::next(m, c);
+        c = walk::next(m, c);
         i += 4;
     }
     true

@@ -4,7 +4,7 @@ use leaves::FS;
 use leaves::GS;
 use leaves::RS;
 use leaves::US;
-use reader::Shape;
+use walk::Shape;
 ghost use Prim.Native.Nat.{_≤_};
 ghost use mathlib.Core.Path.{_≡_};
 ghost use mathlib.Core.Bool.{_&&_};
@@ -59,7 +59,7 @@ fn before_value(format: u32) -> Marks
     ensures few { λ r. ⌜ r .count ≤ length (r .bytes) ⌝ }
     ensures marks { λ r. ⌜ marksOf r ≡ beforeValue (ruleOf edition2005 format) ⌝ }
 {
-    let shape = reader::shape_of(format);
+    let shape = walk::shape_of(format);
     match shape {
         Shape::Segments => none(),
         _ => one(GS),
@@ -115,7 +115,7 @@ pub(crate) fn ending_of(format: u32, p: u32) -> Marks
     ensures few { λ r. ⌜ r .count ≤ length (r .bytes) ⌝ }
     ensures marks { λ r. ⌜ marksOf r ≡ ending (ruleOf edition2005 format) p ⌝ }
 {
-    let shape = reader::shape_of(format);
+    let shape = walk::shape_of(format);
     match shape {
         Shape::Rest => none(),
         _ => if in_segment(p) {

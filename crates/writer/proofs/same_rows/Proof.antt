@@ -9,9 +9,9 @@ use Rattle.label.specs.Formats.{edition2005}
 use Rattle.label.specs.ReadMessage.{reading}
 use Rattle.label.specs.Answer.{rowsRead}
 use Rattle.label.specs.Writing.{rowsIn}
-use Rattle.reader.specs.declared.Cursor.{Cursor}
-use Rattle.reader.proofs.Walks.{Yields}
-use Rattle.reader.proofs.Promises.{walked}
+use Rattle.walk.specs.declared.Cursor.{Cursor}
+use Rattle.walk.proofs.Walks.{Yields}
+use Rattle.walk.proofs.Promises.{walked}
 use Rattle.writer.proofs.GivenLaws.{next-whole}
 use Rattle.writer.proofs.Comparing.{rows-counted, not-as-many, Compared, compared-first, compared-differs, compared-next, compared-last}
 use Rattle.writer.proofs.same_rows.Statement.{statement}

@@ -1,49 +1,75 @@
--- `read` answers and fills as the definitions say: the judgement of the whole message decides before a number is written.
-use mathlib.Core.Path.{sym, _∙_}
-use Rattle.reader.proofs.ReadLaws.{room-for, lacks-room, has-room, is-refused}
+-- `read` is the quick path's answer where that has one, with few notes or many, and the exact reader's elsewhere.
+use native.Mathlib.Omega.{arith}
+use Rattle.reader.proofs.NotedRows.{handed}
 use borrow.Author.Needs.{needs}
 use Rattle.reader.proofs.table.read.Statement.{statement}
 use Rattle.reader.proofs.table.read.Tie as tie
 
-judge-requires : tie.Need-judge-requires
-judge-requires c κs = search needs
+slice-aggregate-sweep : tie.Need-slice-aggregate-sweep
+slice-aggregate-sweep c = search needs
 
-enum-known-judged : tie.Need-enum-known-judged
-enum-known-judged c = search needs
+sweep-requires : tie.Need-sweep-requires
+sweep-requires c κs = search needs
 
-returns : tie.Need-returns
-returns c =
-    let so = lacks-room (c .before .before .before .before .before .before .before .args .message .now) (c .before .before .before .before .before .before .before .args .table .now) (c .before .before .judged .given .0 .0) (sym (c .before .before .before .before .judge .ensures) ∙ c .before .before .judged .given .1) (c .if1 .taken) in
-    (so .answered-so, so .filled-so)
+enum-known-swept : tie.Need-enum-known-swept
+enum-known-swept c = search needs
 
-fill-requires : tie.Need-fill-requires
-fill-requires c κs = room-for (c .before .before .before .before .before .before .before .before .args .message .now) (c .before .before .before .before .before .before .before .before .args .table .now) (c .before .before .before .judged .given .0 .0) (sym (c .before .before .before .before .before .judge .ensures) ∙ c .before .before .before .judged .given .1) (c .before .if1 .left)
+slice-aggregate-hand-over : tie.Need-slice-aggregate-hand-over
+slice-aggregate-hand-over c = search needs
 
-enum-known-judged-2 : tie.Need-enum-known-judged-2
-enum-known-judged-2 c = search needs
+hand-over-requires : tie.Need-hand-over-requires
+hand-over-requires c κs =
+    let args = c .before .before .before .before .before .before .before .before .before .before .args in
+    let sweep = c .before .before .before .before .before .before .sweep in
+    let given = c .before .before .before .swept .given in
+    handed (args .message .now) 64 (sweep .last .1 .1 .0) (sweep .result) (given .0 .0) (given .1) (sweep .ensures) (omega arith)
+
+enum-told : tie.Need-enum-told
+enum-told c = search needs
+
+read-many-requires : tie.Need-read-many-requires
+read-many-requires c κs = search needs
+
+enum-told-2 : tie.Need-enum-told-2
+enum-told-2 c = search needs
+
+read-exactly-requires : tie.Need-read-exactly-requires
+read-exactly-requires c κs = search needs
 
 same-length : tie.Need-same-length
 same-length c = search needs
 
+returns : tie.Need-returns
+returns c = search needs
+
+same-length-2 : tie.Need-same-length-2
+same-length-2 c = search needs
+
 returns-2 : tie.Need-returns-2
-returns-2 c =
-    let so = has-room (c .before .before .before .before .before .before .before .before .before .before .before .args .message .now) (c .before .before .before .before .before .before .before .before .before .before .before .args .table .now) (c .before .before .before .before .before .before .judged .given .0 .0) (sym (c .before .before .before .before .before .before .before .before .judge .ensures) ∙ c .before .before .before .before .before .before .judged .given .1) (c .before .before .before .before .if1 .left) in
-    (so .answered-so, c .before .before .fill .ensures ∙ so .filled-so)
+returns-2 c = search needs
+
+same-length-3 : tie.Need-same-length-3
+same-length-3 c = search needs
 
 returns-3 : tie.Need-returns-3
-returns-3 c =
-    let so = is-refused (c .before .before .before .before .before .before .args .message .now) (c .before .before .before .before .before .before .args .table .now) (c .before .judged2 .given .0 .0) (sym (c .before .before .before .judge .ensures) ∙ c .before .judged2 .given .1) in
-    (so .answered-so, so .filled-so)
+returns-3 c = search needs
 
 pub read-spec : {M : Type 1} → statement M
 read-spec =
     tie.close
     (tie.spec
-    judge-requires
-    enum-known-judged
-    returns
-    fill-requires
-    enum-known-judged-2
+    slice-aggregate-sweep
+    sweep-requires
+    enum-known-swept
+    slice-aggregate-hand-over
+    hand-over-requires
+    enum-told
+    read-many-requires
+    enum-told-2
+    read-exactly-requires
     same-length
+    returns
+    same-length-2
     returns-2
+    same-length-3
     returns-3)

@@ -1,0 +1,85 @@
+-- From a judgement to the answer and the table: accepted with room, accepted without, and refused.
+use Prim.Native.Nat.{ℕ, _≤_, _<_}
+use mathlib.Core.Path.{_≡_, refl, sym, ap, _∙_}
+use mathlib.Core.List.{List}
+use native.Mathlib.Omega.{arith}
+use borrow.Author.Tests.{lt-ltb, le-ltb}
+use lib.ListN.{length}
+use Rattle.label.specs.declared.Counts.{Counts}
+use Rattle.label.specs.declared.Refusal.{Refusal}
+use Rattle.label.specs.declared.Reading.the-variants.{Accepted, Refused}
+use Rattle.label.specs.declared.Reason.the-variants.{NoRoom}
+use Rattle.label.specs.Bytes.{Bytes}
+use Rattle.label.specs.Formats.{edition2005}
+use Rattle.label.specs.Layout.{allNumbers}
+use Rattle.label.specs.Message.{rowsOf}
+use Rattle.label.specs.ReadMessage.{Outcome, read, refused, reading}
+use Rattle.label.specs.Answer.{accepted, refusal, roomOf, answered, readAnswer, overlaid, filled, tableAfter, rowsRead}
+use Rattle.judge.specs.Shown.{judgedAs}
+use Rattle.judge.proofs.BodyLaws.{cond-yes, cond-no}
+use Rattle.exact.specs.Tables.{Room}
+
+-- what a caller has: an answer, and a table
+pub record Told (m : Bytes) (table after answer : List ℕ) : Type 0 where
+  pub answered-so : answer ≡ readAnswer edition2005 m (roomOf table)
+  pub filled-so : after ≡ tableAfter edition2005 m table
+
+record ToldBy (o : Outcome) (table after answer : List ℕ) : Type 0 where
+  answered-so : answer ≡ answered (roomOf table) o
+  filled-so : after ≡ filled table o
+
+told : (m : Bytes) (table after answer : List ℕ) → ToldBy (reading edition2005 m) table after answer → Told m table after answer
+unfolding readAnswer tableAfter
+told m table after answer by = record { answered-so = by .answered-so; filled-so = by .filled-so }
+
+rows-by : (o : Outcome) (counts : Counts) → judgedAs o ≡ Accepted counts → counts .rows ≡ length (rowsRead o)
+rows-by (read es) counts says = let is : record { envelopes = length es; rows = length (rowsOf es) } ≡ counts = cc in sym (ap (λ (c : Counts). c .rows) is)
+rows-by (refused r p) counts says = let z : _≡_ {A = ℕ} 0 1 = cc in absurd (omega arith)
+
+no-room-by : (o : Outcome) (counts : Counts) (table : List ℕ) → judgedAs o ≡ Accepted counts → roomOf table < counts .rows → ToldBy o table table (refusal NoRoom 0)
+no-room-by (read es) counts table says short =
+    let is = rows-by (read es) counts says in
+    let less = lt-ltb (roomOf table) (length (rowsOf es)) (omega arith) in
+    record { answered-so = sym (cond-yes _ _ _ less); filled-so = sym (cond-yes _ _ _ less) }
+no-room-by (refused r p) counts table says short = let z : _≡_ {A = ℕ} 0 1 = cc in absurd (omega arith)
+
+filled-by : (o : Outcome) (counts : Counts) (table : List ℕ) → judgedAs o ≡ Accepted counts → counts .rows ≤ roomOf table → ToldBy o table (overlaid (allNumbers (rowsRead o)) table) (accepted (counts .envelopes) (counts .rows))
+filled-by (read es) counts table says enough =
+    let is : record { envelopes = length es; rows = length (rowsOf es) } ≡ counts = cc in
+    let rows = rows-by (read es) counts says in
+    let fits = le-ltb (roomOf table) (length (rowsOf es)) (omega arith) in
+    record {
+      answered-so = sym (cond-no _ _ _ fits ∙ ap (λ (c : Counts). accepted (c .envelopes) (c .rows)) is);
+      filled-so = sym (cond-no _ _ _ fits);
+    }
+filled-by (refused r p) counts table says enough = let z : _≡_ {A = ℕ} 0 1 = cc in absurd (omega arith)
+
+refused-by : (o : Outcome) (r : Refusal) (table : List ℕ) → judgedAs o ≡ Refused r → ToldBy o table table (refusal (r .reason) (r .place))
+refused-by (read es) r table says = let z : _≡_ {A = ℕ} 0 1 = cc in record { answered-so = absurd (omega arith); filled-so = absurd (omega arith) }
+refused-by (refused reason place) r table says =
+    let is : record { reason = reason; place = place } ≡ r = cc in
+    record { answered-so = sym (ap (λ (f : Refusal). refusal (f .reason) (f .place)) is); filled-so = refl }
+
+none-by : (o : Outcome) (r : Refusal) → judgedAs o ≡ Refused r → 0 ≡ length (rowsRead o)
+none-by (read es) r says = let z : _≡_ {A = ℕ} 0 1 = cc in absurd (omega arith)
+none-by (refused reason place) r says = refl
+
+pub rows-judged : (m : Bytes) (counts : Counts) → judgedAs (reading edition2005 m) ≡ Accepted counts → counts .rows ≡ length (rowsRead (reading edition2005 m))
+rows-judged m counts says = rows-by (reading edition2005 m) counts says
+
+pub none-judged : (m : Bytes) (r : Refusal) → judgedAs (reading edition2005 m) ≡ Refused r → 0 ≡ length (rowsRead (reading edition2005 m))
+none-judged m r says = none-by (reading edition2005 m) r says
+
+module _ (m : Bytes) (table : List ℕ) where
+  pub room-for : (counts : Counts) → judgedAs (reading edition2005 m) ≡ Accepted counts → counts .rows ≤ roomOf table → Room m (counts .rows) table
+  room-for counts says enough = record { counted = rows-judged m counts says; roomy = omega arith }
+
+  pub lacks-room : (counts : Counts) → judgedAs (reading edition2005 m) ≡ Accepted counts → roomOf table < counts .rows → Told m table table (refusal NoRoom 0)
+  lacks-room counts says short = told m table table (refusal NoRoom 0) (no-room-by (reading edition2005 m) counts table says short)
+
+  pub has-room : (counts : Counts) → judgedAs (reading edition2005 m) ≡ Accepted counts → counts .rows ≤ roomOf table
+      → Told m table (overlaid (allNumbers (rowsRead (reading edition2005 m))) table) (accepted (counts .envelopes) (counts .rows))
+  has-room counts says enough = told m table _ _ (filled-by (reading edition2005 m) counts table says enough)
+
+  pub is-refused : (r : Refusal) → judgedAs (reading edition2005 m) ≡ Refused r → Told m table table (refusal (r .reason) (r .place))
+  is-refused r says = told m table table _ (refused-by (reading edition2005 m) r table says)

@@ -1,0 +1,101 @@
+-- `fill` puts each row behind the ones before it. The loop's invariant: the table holds the first i rows and then what it held, and the cursor yields the rows
+-- from number i on.
+use Prim.Native.Nat.{_+_, _*_, _<_, _-_, _≤_}
+use mathlib.Core.Path.{sym, subst}
+use native.Mathlib.Omega.{arith}
+use borrow.Author.Needs.{needs}
+use lib.ListN.{length}
+use Rattle.label.specs.Limits.{rowWidth}
+use Rattle.label.specs.Formats.{edition2005}
+use Rattle.label.specs.ReadMessage.{reading}
+use Rattle.label.specs.Answer.{rowsRead}
+use Rattle.walk.specs.declared.Cursor.{Cursor}
+use Rattle.walk.proofs.Promises.{walked}
+use Rattle.exact.proofs.Filling.{Filled, filled-first, filled-length, filled-last, filled-inside, filled-next}
+use Rattle.exact.proofs.rows.fill.Statement.{statement}
+use Rattle.exact.proofs.rows.fill.Tie as tie
+
+abbrev Inv-loop : tie.InvT-loop
+Inv-loop m rows table₀ c₀ i₀ table c i = Filled m (rowsRead (reading edition2005 m)) table₀ table c i
+
+abbrev μ-loop : tie.MeasureT-loop
+μ-loop m rows table₀ c₀ i₀ table c i = rows - i
+
+first-requires : tie.Need-first-requires Inv-loop μ-loop
+first-requires c κs = search needs
+
+loop-holds : tie.Need-loop-holds Inv-loop μ-loop
+loop-holds c =
+    let m = c .before .before .before .args .m .now in
+    let all = rowsRead (reading edition2005 m) in
+    let old = c .before .before .before .args .table .now in
+    subst (λ (at : Cursor). Filled m all old old at 0) (sym (c .first .ensures)) (filled-first m all old (walked m .yields))
+
+mul-put-row : tie.Need-mul-put-row Inv-loop μ-loop
+mul-put-row c = search needs
+
+put-row-requires : tie.Need-put-row-requires Inv-loop μ-loop
+put-row-requires c κs =
+    let m = c .before .before .before .before .before .before .args .m .now in
+    let all = rowsRead (reading edition2005 m) in
+    let old = c .before .before .before .before .before .before .args .table .now in
+    let roomy : rowWidth * length all ≤ length old = omega arith in
+    let at = c .before .before .loop in
+    let more : at .i < length all = omega (arith, c .before .loop-test .taken) in
+    let long = filled-length m all old (at .table) (at .c) (at .i) (at .inv) roomy in
+    record { roomy = omega arith; inside = filled-inside m all old (at .table) (at .c) (at .i) (at .inv) roomy more (walked m .inside) }
+
+advance-requires : tie.Need-advance-requires Inv-loop μ-loop
+advance-requires c κs = search needs
+
+add-i : tie.Need-add-i Inv-loop μ-loop
+add-i c = search needs
+
+loop-less : tie.Need-loop-less Inv-loop μ-loop
+loop-less c = search needs
+
+loop-again : tie.Need-loop-again Inv-loop μ-loop
+loop-again c =
+    let m = c .before .before .before .before .before .before .before .before .before .before .args .m .now in
+    let all = rowsRead (reading edition2005 m) in
+    let old = c .before .before .before .before .before .before .before .before .before .before .args .table .now in
+    let roomy : rowWidth * length all ≤ length old = omega arith in
+    let at = c .before .before .before .before .before .before .loop in
+    let more : at .i < length all = omega (arith, c .before .before .before .before .before .loop-test .taken) in
+    subst (λ (next : Cursor). Filled m all old (c .before .before .before .put-row .last .0) next (at .i + 1)) (sym (c .advance .ensures))
+    (filled-next m all old (at .table) (at .c) (at .i) (at .inv) roomy more (c .before .before .before .put-row .last .0) (c .before .before .before .put-row .ensures))
+
+same-length : tie.Need-same-length Inv-loop μ-loop
+same-length c =
+    let m = c .before .before .before .before .before .args .m .now in
+    let all = rowsRead (reading edition2005 m) in
+    let old = c .before .before .before .before .before .args .table .now in
+    let roomy : rowWidth * length all ≤ length old = omega arith in
+    let at = c .before .loop in
+    filled-length m all old (at .table) (at .c) (at .i) (at .inv) roomy
+
+returns : tie.Need-returns Inv-loop μ-loop
+returns c =
+    let m = c .before .before .before .before .before .args .m .now in
+    let all = rowsRead (reading edition2005 m) in
+    let old = c .before .before .before .before .before .args .table .now in
+    let roomy : rowWidth * length all ≤ length old = omega arith in
+    let at = c .before .loop in
+    filled-last m all old (at .table) (at .c) (at .i) (at .inv) roomy (omega (arith, c .loop-test .left))
+
+pub fill-spec : {M : Type 1} → statement M
+fill-spec =
+    tie.close
+    (tie.spec
+    Inv-loop
+    μ-loop
+    first-requires
+    loop-holds
+    mul-put-row
+    put-row-requires
+    advance-requires
+    add-i
+    loop-less
+    loop-again
+    same-length
+    returns)

@@ -1,0 +1,200 @@
+-- From a swept body to its format, and from a format to its envelope: what is found by offsets is what reading shows, and the walk stands at the next indicator.
+use Prim.Native.Nat.{ℕ, _+_, _-_, _*_, _≤_, _<_}
+use mathlib.Core.Path.{_≡_, refl, sym, ap, _∙_, subst}
+use mathlib.Core.Bool.{Bool, true, false, not, _&&_, _||_, cond}
+use mathlib.Core.List.{List, [], _∷_}
+use native.Mathlib.Omega.{arith}
+use borrow.Author.Tests.{le-leb, ltb-false, eqb-true}
+use lib.ListN.{length, getD, take, drop, length-take, length-drop}
+use lib.Seq.{drop-drop, getD-drop, getD-at, length-take-le}
+use lib.Dec.{eqb, ltb, leb}
+use Rattle.label.specs.declared.Reason.the-variants.{BadFormatHeader}
+use Rattle.label.specs.Bytes.{Bytes, EOT, GS, RS, between, digit, every}
+use Rattle.label.specs.Limits.{longest, mostRows}
+use Rattle.label.specs.Values.{value}
+use Rattle.label.specs.Formats.{edition2005, ruleOf, textByte}
+use Rattle.label.specs.ReadEnvelope.{readBy, readEnvelope}
+use Rattle.label.specs.ReadMessage.{agreement}
+use Rattle.label.proofs.Tests.{and-both}
+use Rattle.leaves.specs.Seek.{seek}
+use Rattle.leaves.proofs.Turns.{drop-step}
+use Rattle.bodies.specs.declared.Kind.{Kind}
+use Rattle.bodies.specs.declared.Kind.the-variants.{Fields02, Fields96, Segments03, Segments04, Elements05, Elements06, Text}
+use Rattle.bodies.proofs.SeekLaws.{seek-found}
+use Rattle.judge.specs.declared.Found.the-variants.{Closed, Refused}
+use Rattle.judge.specs.Shown.{shown}
+use Rattle.judge.specs.Headers.{indicatorOf}
+use Rattle.judge.specs.Bodies.{bodyFound}
+use Rattle.judge.specs.Formats.{beginsAt}
+use Rattle.judge.proofs.BodyLaws.{cond-yes, body-closed}
+use Rattle.judge.proofs.HeaderLaws.{drop-two, read-some}
+use Rattle.judge.proofs.FormatLaws.{shown-05, shown-06, shown-07}
+use Rattle.walk.specs.declared.Stage.the-variants.{Indicator, Piece, Body}
+use Rattle.walk.specs.declared.Cursor.{Cursor}
+use Rattle.reader.specs.declared.quick.Passed.{Passed}
+use Rattle.walk.specs.Shapes.{shapeOf}
+use Rattle.walk.specs.Cursors.{ahead, standing, plainRow, indicatorAt, opening, following, nextCursor}
+use Rattle.reader.specs.Quick.{Framed, Noted, Notable, NotedOne, ElementsOf, BodySwept, FormatSwept, EnvelopeSwept, FirstAt}
+use Rattle.reader.proofs.ElementEnds.{neither}
+use Rattle.reader.proofs.Framing.{byte-behind}
+
+module _ (m : Bytes) (at : ℕ) (inside : at < length m) where
+  -- one byte further
+  pub one-ahead : ahead m at 1 ≡ at + 1
+  one-ahead = omega (arith, length-take 1 (drop at m), length-drop at m)
+
+  -- a GS that stands at an offset begins what follows
+  begins-gs : getD m at 0 ≡ GS → beginsAt (GS ∷ []) m at ≡ true
+  begins-gs is = ap (λ bs. eqb (agreement (GS ∷ []) bs) 1) (drop-step m at inside ∙ ap (λ b. b ∷ drop (at + 1) m) is)
+
+-- a format by its number
+module _ (m : Bytes) (from at rows f n : ℕ) (notes : List ℕ) (is : f ≡ n) where
+  pub due-as : Noted m from notes rows (opening m f at (shapeOf (ruleOf edition2005 f))) → Noted m from notes rows (opening m n at (shapeOf (ruleOf edition2005 n)))
+  due-as noted = subst (λ (f : ℕ). Noted m from notes rows (opening m f at (shapeOf (ruleOf edition2005 f)))) is noted
+
+  pub swept-as : (p : Passed) → FormatSwept m from n at rows p notes → FormatSwept m from f at rows p notes
+  swept-as p swept = subst (λ (f : ℕ). FormatSwept m from f at rows p notes) (sym is) swept
+
+-- Elements
+
+module _ (m : Bytes) (from at rows : ℕ) (inside : at < length m) (gs : getD m at 0 ≡ GS) where
+  elements-shown : (k : Kind) (f : ℕ) → ElementsOf k f → (first : Bool) → shown m (readBy (ruleOf edition2005 f) first f (drop at m)) ≡ cond (beginsAt (GS ∷ []) m at) (bodyFound k 1 m (at + 1)) (Refused BadFormatHeader)
+  unfolding ruleOf readBy
+  elements-shown Elements05 f is first = ap (λ f. shown m (readBy (ruleOf edition2005 f) first f (drop at m))) is ∙ shown-05 m at (omega arith)
+  elements-shown Elements06 f is first = ap (λ f. shown m (readBy (ruleOf edition2005 f) first f (drop at m))) is ∙ shown-06 m at (omega arith)
+  elements-shown Fields02 f is first = absurd is
+  elements-shown Fields96 f is first = absurd is
+  elements-shown Segments03 f is first = absurd is
+  elements-shown Segments04 f is first = absurd is
+  elements-shown Text f is first = absurd is
+
+  -- the first element behind GS
+  pub elements-due : (k : Kind) (f : ℕ) → ElementsOf k f → (notes : List ℕ) → Noted m from notes rows (opening m f at (shapeOf (ruleOf edition2005 f))) → Noted m from notes rows (plainRow m Piece f (at + 1))
+  unfolding ruleOf opening
+  elements-due Elements05 f is notes noted = subst (Noted m from notes rows) (ap (λ n. opening m n at (shapeOf (ruleOf edition2005 n))) is ∙ (λ i. plainRow m Piece (sym is i) (one-ahead m at inside i))) noted
+  elements-due Elements06 f is notes noted = subst (Noted m from notes rows) (ap (λ n. opening m n at (shapeOf (ruleOf edition2005 n))) is ∙ (λ i. plainRow m Piece (sym is i) (one-ahead m at inside i))) noted
+  elements-due Fields02 f is notes noted = absurd is
+  elements-due Fields96 f is notes noted = absurd is
+  elements-due Segments03 f is notes noted = absurd is
+  elements-due Segments04 f is notes noted = absurd is
+  elements-due Text f is notes noted = absurd is
+
+  pub elements-swept : (k : Kind) (f : ℕ) → ElementsOf k f → (p : Passed) (notes : List ℕ) → BodySwept m from k (at + 1) rows p notes → FormatSwept m from f at rows p notes
+  elements-swept k f of p notes body = record {
+    more = body .more;
+    inside = body .inside;
+    closes = λ first only. elements-shown k f of first ∙ cond-yes _ _ _ (begins-gs m at inside gs) ∙ body .closes 1;
+    noted = body .noted;
+  }
+
+-- Text
+
+module _ (m : Bytes) (framed : Framed m) (from at rows end : ℕ) (inside : at < length m) (is : end ≡ at + seek RS (drop at m)) (ended : end < length m) where
+  -- the byte behind the text
+  text-rs : getD m end 0 ≡ RS
+  text-rs =
+      let n = seek RS (drop at m) in
+      let less : n < length (drop at m) = omega (arith, length-drop at m) in
+      let long = length-take-le n (drop at m) (omega arith) in
+      ap (λ i. getD m i 0) is ∙ sym (getD-drop at m n 0) ∙ ap (λ bs. getD bs n 0) (seek-found RS (drop at m) less) ∙ getD-at (take n (drop at m)) RS (drop (n + 1) (drop at m)) 0 n long
+
+  pub text-more : end + 1 < length m
+  text-more = byte-behind m framed end ended RS text-rs (λ e. omega arith)
+
+  abbrev text-row : Cursor
+  text-row = standing Body 7 at (end - at)
+
+  pub text-notable : (row : ℕ) (c : Cursor) → c ≡ text-row → row ≤ mostRows → Notable row c
+  text-notable row c same few = subst (Notable row) (sym same) (record { few = omega arith; inside = omega (arith, framed .short); known = omega arith })
+
+  text-here : opening m 7 at (shapeOf (ruleOf edition2005 7)) ≡ text-row
+  unfolding ruleOf opening
+  text-here = let long : seek RS (drop at m) ≡ end - at = omega arith in ap (standing Body 7 at) long
+
+  text-next : nextCursor m text-row ≡ indicatorAt m (end + 1)
+  unfolding nextCursor following
+  text-next =
+      let there : ahead m at (end - at) ≡ end = omega (arith, length-take (end - at) (drop at m), length-drop at m) in
+      ap (λ e. indicatorAt m (ahead m e 1)) there ∙ ap (indicatorAt m) (one-ahead m end ended)
+
+  pub text-swept : (old new : List ℕ) (c : Cursor) → every textByte (take (end - at) (drop at m)) ≡ true → c ≡ text-row → Noted m from old rows (opening m 7 at (shapeOf (ruleOf edition2005 7))) → NotedOne from old new rows c
+      → FormatSwept m from 7 at rows (record { next = end + 1; rows = rows + 1 }) new
+  unfolding ruleOf readBy
+  text-swept old new c permitted same noted one =
+      let two : 1 + 1 ≡ 1 + (rows + 1 - rows) = omega arith in
+      record {
+        more = omega arith;
+        inside = text-more;
+        closes = λ first only. shown-07 m at (omega arith) ∙ sym (body-closed Text 1 m at end (omega arith) is ended permitted refl) ∙ ap (Closed (end + 1)) two;
+        noted = subst (Noted m from new (rows + 1)) (ap (nextCursor m) same ∙ text-next) (one m (subst (Noted m from old rows) (text-here ∙ sym same) noted));
+      }
+
+-- Envelopes
+
+module _ (m : Bytes) (framed : Framed m) (from at rows : ℕ) (long : 3 ≤ length m - at)
+    (digits : ((not (eqb (getD m at 0) 0x30) || ltb (getD m (at + 1) 0) 0x30) || ltb 0x39 (getD m (at + 1) 0)) ≡ false) where
+  -- the format that the indicator says
+  abbrev units : ℕ
+  units = getD m (at + 1) 0 - 0x30
+
+  record Says : Type 0 where
+    tens : getD m at 0 ≡ 0x30
+    least : 0x30 ≤ getD m (at + 1) 0
+    most : getD m (at + 1) 0 ≤ 0x39
+
+  says : Says
+  says =
+      let k = neither (not (eqb (getD m at 0) 0x30) || ltb (getD m (at + 1) 0) 0x30) (ltb 0x39 (getD m (at + 1) 0)) digits in
+      let l = neither (not (eqb (getD m at 0) 0x30)) (ltb (getD m (at + 1) 0) 0x30) (k .0) in
+      record { tens = eqb-true (getD m at 0) 0x30 (not-not (eqb (getD m at 0) 0x30) (l .0)); least = ltb-false (getD m (at + 1) 0) 0x30 (l .1); most = ltb-false 0x39 (getD m (at + 1) 0) (k .1) }
+    where
+      not-not : (t : Bool) → not t ≡ false → t ≡ true
+      not-not true h = refl
+      not-not false h = sym h
+
+  pub units-fit : (0x30 ≤ getD m (at + 1) 0) × (units ≤ 9)
+  units-fit = let s = says in (s .least, omega (arith, s .most))
+
+  says-format : indicatorOf (drop at m) ≡ units
+  unfolding digit between
+  says-format =
+      let s = says in
+      let a = getD m at 0 in
+      let b = getD m (at + 1) 0 in
+      let sum : 10 * (10 * 0 + (a - 0x30)) + (b - 0x30) ≡ b - 0x30 = omega (arith, s .tens) in
+      ap indicatorOf (drop-two m at (omega arith))
+      ∙ cond-yes (digit a && digit b) (value (a ∷ b ∷ [])) 100 (and-both (and-both (le-leb 0x30 a (omega (arith, s .tens))) (le-leb a 0x39 (omega (arith, s .tens)))) (and-both (le-leb 0x30 b (s .least)) (le-leb b 0x39 (s .most))))
+      ∙ sum
+
+  abbrev indicator-row : Cursor
+  indicator-row = standing Indicator units at 2
+
+  indicator-here : indicatorAt m at ≡ indicator-row
+  unfolding indicatorAt
+  indicator-here = let s = says in let sum : 10 * (getD m at 0 - 0x30) + units ≡ units = omega (arith, s .tens) in ap (λ f. standing Indicator f at 2) sum
+
+  indicator-next : nextCursor m indicator-row ≡ opening m units (at + 2) (shapeOf (ruleOf edition2005 units))
+  unfolding nextCursor following
+  indicator-next = let there : ahead m at 2 ≡ at + 2 = omega (arith, length-take 2 (drop at m), length-drop at m) in ap (λ e. opening m units e (shapeOf (ruleOf edition2005 units))) there
+
+  pub indicator-notable : (c : Cursor) → c ≡ indicator-row → rows ≤ mostRows → Notable rows c
+  indicator-notable c same few = let s = says in subst (Notable rows) (sym same) (record { few = omega arith; inside = omega (arith, framed .short); known = omega (arith, s .most) })
+
+  pub format-due : (old new : List ℕ) (c : Cursor) → c ≡ indicator-row → Noted m from old rows (indicatorAt m at) → NotedOne from old new rows c
+      → Noted m from new (rows + 1) (opening m units (at + 2) (shapeOf (ruleOf edition2005 units)))
+  format-due old new c same noted one = subst (Noted m from new (rows + 1)) (ap (nextCursor m) same ∙ indicator-next) (one m (subst (Noted m from old rows) (indicator-here ∙ sym same) noted))
+
+  pub envelope-swept : (p : Passed) (notes : List ℕ) → FormatSwept m from units (at + 2) (rows + 1) p notes → EnvelopeSwept m from at rows p notes
+  envelope-swept p notes format =
+      let s = says in
+      let here : at + 2 - 2 ≡ at = omega arith in
+      let count : 1 + (p .rows - (rows + 1)) ≡ p .rows - rows = omega (arith, format .more) in
+      record {
+        more = omega (arith, format .more);
+        inside = format .inside;
+        closes = λ first only.
+            ap (shown m) (read-some edition2005 first units (drop at m) says-format (omega (arith, s .most)) ∙ ap (readBy (ruleOf edition2005 units) first units) (drop-drop 2 at m))
+            ∙ format .closes first (λ e. only (sym here ∙ e))
+            ∙ ap (Closed (p .next)) count;
+        noted = format .noted;
+      }

@@ -1,0 +1,17 @@
+-- `in_limits` is `fitsIn`: the limits looked up, or a later field that is empty.
+use mathlib.Core.Bool.{_&&_, _||_}
+use lib.Dec.{leb, eqb}
+use borrow.Author.Needs.{needs}
+use Rattle.reader.proofs.transport.in_limits.Statement.{statement}
+use Rattle.reader.proofs.transport.in_limits.Tie as tie
+
+limits-of-requires : tie.Need-limits-of-requires
+limits-of-requires c κs = search needs
+
+returns : tie.Need-returns
+returns c =
+    let args = c .before .before .before .args in
+    λ j. (leb (c .before .before .limits-of .ensures j .0) (args .size) && leb (args .size) (c .before .before .limits-of .ensures j .1)) || (leb 5 (args .i) && eqb (args .size) 0)
+
+pub in-limits-spec : {M : Type 1} → statement M
+in-limits-spec = tie.close (tie.spec limits-of-requires returns)

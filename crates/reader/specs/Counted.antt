@@ -1,0 +1,44 @@
+-- What the quick path keeps while it sweeps format 09, by header value: type, compression, count, each with its GS; then the payload and its RS.
+use Prim.Native.Nat.{ℕ, _+_, _≤_, _<_}
+use mathlib.Core.Path.{_≡_}
+use mathlib.Core.Bool.{true}
+use mathlib.Core.List.{List}
+use lib.ListN.{length}
+use Rattle.label.specs.Bytes.{Bytes, plain}
+use Rattle.label.specs.Limits.{mostRows}
+use Rattle.leaves.specs.Classes.{classOf}
+use Rattle.judge.specs.declared.Found.{Found}
+use Rattle.judge.specs.declared.Found.the-variants.{Closed}
+use Rattle.judge.specs.Headers.{valueEnd}
+use Rattle.reader.specs.declared.counted.Value.{Value}
+use Rattle.reader.specs.declared.quick.Passed.{Passed}
+use Rattle.walk.specs.declared.Stage.{Stage}
+use Rattle.walk.specs.Cursors.{plainRow, indicatorAt, following}
+use Rattle.reader.specs.Quick.{Framed, RunsTo, Noted}
+
+-- the walk stands at a header value of 09 from an offset on, and there is room for so many rows
+pub record Due (m : Bytes) (from : ℕ) (stage : Stage) (at rows room : ℕ) (notes : List ℕ) : Type 0 where
+  pub framed : Framed m
+  pub inside : at < length m
+  pub few : rows + room ≤ mostRows
+  pub noted : Noted m from notes rows (plainRow m stage 9 at)
+
+-- a header value whose bytes are plain
+abbrev pub PlainBytes : Value → Type 0
+PlainBytes v = (b : ℕ) → classOf (v .class) b ≡ true → plain b ≡ true
+
+-- a header value from an offset on has its length and bytes, its GS stands where it ends, before the next offset, and its row is noted
+pub record ValueSwept (m : Bytes) (from : ℕ) (v : Value) (at rows next : ℕ) (notes : List ℕ) : Type 0 where
+  pub end : ℕ
+  pub behind : next ≡ end + 1
+  pub ends : end ≡ valueEnd (v .least) (v .most) (classOf (v .class)) m at
+  pub runs : RunsTo (classOf (v .class)) m at end
+  pub inside : next < length m
+  pub noted : Noted m from notes (rows + 1) (following m 9 at end (v .stage))
+
+-- what is found from a header value on is closed before the next offset, and so many rows are noted
+pub record PartSwept (m : Bytes) (from : ℕ) (found : Found) (rows : ℕ) (p : Passed) (notes : List ℕ) : Type 0 where
+  pub counts : p .rows ≡ rows
+  pub inside : p .next < length m
+  pub closes : found ≡ Closed (p .next) 5
+  pub noted : Noted m from notes (p .rows) (indicatorAt m (p .next))

@@ -1,0 +1,7 @@
+pub mod Offsets
+pub mod Walks
+pub mod Pieces
+pub mod Shaped
+pub mod Enveloped
+pub mod Promises
+pub mod OneOutcome

@@ -1,0 +1,54 @@
+-- `shape_of` goes by the list of formats: a number in it has its rule's shape, any other is unknown.
+use Rattle.label.specs.Formats.{ruleOf}
+use Rattle.judge.proofs.FormatLaws.{other-format}
+use Rattle.walk.proofs.shape_of.Statement.{statement}
+use Rattle.walk.proofs.shape_of.Tie as tie
+
+returns : tie.Need-returns
+unfolding ruleOf
+returns c = rw (c .match .keys1)
+
+returns-2 : tie.Need-returns-2
+unfolding ruleOf
+returns-2 c = rw (c .match .keys2)
+
+returns-3 : tie.Need-returns-3
+unfolding ruleOf
+returns-3 c = rw (c .match .keys3)
+
+returns-4 : tie.Need-returns-4
+unfolding ruleOf
+returns-4 c = rw (c .match .keys4)
+
+returns-5 : tie.Need-returns-5
+unfolding ruleOf
+returns-5 c = rw (c .match .keys5)
+
+returns-6 : tie.Need-returns-6
+unfolding ruleOf
+returns-6 c = rw (c .match .keys6)
+
+returns-7 : tie.Need-returns-7
+unfolding ruleOf
+returns-7 c = rw (c .match .keys7)
+
+returns-8 : tie.Need-returns-8
+unfolding ruleOf
+returns-8 c = rw (c .match .keys8)
+
+returns-9 : tie.Need-returns-9
+returns-9 c = rw (other-format (c .before .args .format) (c .match .rest))
+
+pub shape-of-spec : {M : Type 1} → statement M
+shape-of-spec =
+    tie.close
+    (tie.spec
+    returns
+    returns-2
+    returns-3
+    returns-4
+    returns-5
+    returns-6
+    returns-7
+    returns-8
+    returns-9)
