@@ -1,6 +1,6 @@
 -- Laws of elements that are taken from a message byte by byte: where the digits in front end, and that what follows makes an element of 05 or 06.
 use Prim.Native.Nat.{ℕ, zero, suc, _+_, _-_, _≤_, _<_}
-use mathlib.Core.Path.{_≡_, refl, sym, ap, _∙_, subst}
+use mathlib.Core.Path.{_≡_, refl, sym, ap, _∙_}
 use mathlib.Core.Bool.{Bool, true, false, not, _&&_, _||_, cond, true≢false}
 use mathlib.Core.List.{List, [], _∷_}
 use native.Mathlib.Nat.{add-zero}
@@ -13,7 +13,7 @@ use Rattle.label.specs.Bytes.{Bytes, between, plain, digit, capital, every, isE
 use Rattle.label.specs.Elements.{element05, capitalAndMore, afterDigits, element06}
 use Rattle.label.proofs.Tests.{both, and-both, Implies}
 use Rattle.leaves.proofs.Turns.{drop-step}
-use Rattle.walk.specs.Cursors.{runOf, plainRun}
+use Rattle.walk.specs.Cursors.{plainRun}
 use Rattle.reader.specs.Quick.{Framed, digitRun, RunsTo, PassesTo}
 use Rattle.walk.proofs.Offsets.{run-by}
 use Rattle.walk.proofs.Shaped.{digit-plain}

@@ -9,11 +9,11 @@ use lib.ListN.{length, getD, take, drop, length-take, length-drop}
 use lib.Seq.{drop-drop, getD-drop, getD-at, length-take-le}
 use lib.Dec.{eqb, ltb, leb}
 use Rattle.label.specs.declared.Reason.the-variants.{BadFormatHeader}
-use Rattle.label.specs.Bytes.{Bytes, EOT, GS, RS, between, digit, every}
-use Rattle.label.specs.Limits.{longest, mostRows}
+use Rattle.label.specs.Bytes.{Bytes, GS, RS, between, digit, every}
+use Rattle.label.specs.Limits.{mostRows}
 use Rattle.label.specs.Values.{value}
 use Rattle.label.specs.Formats.{edition2005, ruleOf, textByte}
-use Rattle.label.specs.ReadEnvelope.{readBy, readEnvelope}
+use Rattle.label.specs.ReadEnvelope.{readBy}
 use Rattle.label.specs.ReadMessage.{agreement}
 use Rattle.label.proofs.Tests.{and-both}
 use Rattle.leaves.specs.Seek.{seek}
@@ -34,7 +34,7 @@ use Rattle.walk.specs.declared.Cursor.{Cursor}
 use Rattle.reader.specs.declared.quick.Passed.{Passed}
 use Rattle.walk.specs.Shapes.{shapeOf}
 use Rattle.walk.specs.Cursors.{ahead, standing, plainRow, indicatorAt, opening, following, nextCursor}
-use Rattle.reader.specs.Quick.{Framed, Noted, Notable, NotedOne, ElementsOf, BodySwept, FormatSwept, EnvelopeSwept, FirstAt}
+use Rattle.reader.specs.Quick.{Framed, Noted, Notable, NotedOne, ElementsOf, BodySwept, FormatSwept, EnvelopeSwept}
 use Rattle.reader.proofs.ElementEnds.{neither}
 use Rattle.reader.proofs.Framing.{byte-behind}
 

@@ -8,7 +8,6 @@ use borrow.Author.Tests.{ne-eqb, eq-eqb, le-ltb}
 use lib.ListN.{length, getD, drop}
 use lib.Dec.{ltb}
 use Rattle.label.specs.declared.Counts.{Counts}
-use Rattle.label.specs.declared.Reading.{Reading}
 use Rattle.label.specs.declared.Reading.the-variants.{Accepted}
 use Rattle.label.specs.Bytes.{Bytes, EOT}
 use Rattle.label.specs.Limits.{mostRows}
@@ -17,9 +16,9 @@ use Rattle.label.specs.ReadMessage.{reading}
 use Rattle.label.proofs.Walk.{walked}
 use Rattle.judge.specs.declared.State.{State}
 use Rattle.judge.specs.declared.Turn.{Turn}
-use Rattle.judge.specs.declared.Turn.the-variants.{Done, Go}
+use Rattle.judge.specs.declared.Turn.the-variants.{Go}
 use Rattle.judge.specs.Shown.{judgedAs, tallied, limited}
-use Rattle.judge.specs.Turns.{resultOf, resultAfter, Sound, TurnSo, boundaryTurn}
+use Rattle.judge.specs.Turns.{resultOf, Sound, TurnSo, boundaryTurn}
 use Rattle.judge.proofs.BodyLaws.{cond-no}
 use Rattle.judge.proofs.WalkLaws.{boundary-next, boundary-last, turn-closed, closed-so}
 use Rattle.judge.proofs.JudgeLaws.{judge-walk}

@@ -1,7 +1,7 @@
 -- Rows that stand in the notes: as the walk goes over the rows that are read, its cursor after so many steps yields those from that number on, and the notes have the
 -- numbers of the row that it stands at.
 use Prim.Native.Nat.{ℕ, zero, suc, _+_, _*_, _≤_, _<_}
-use mathlib.Core.Path.{_≡_, refl, sym, ap, _∙_, subst}
+use mathlib.Core.Path.{_≡_, sym, subst}
 use mathlib.Core.List.{List, [], _∷_}
 use native.Mathlib.Omega.{arith}
 use native.Mathlib.Numerals.{add-one}

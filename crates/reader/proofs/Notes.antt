@@ -1,14 +1,14 @@
 -- One row more is noted: it stands where it belongs if it is wanted and there is room, and the rows noted before stand as they did.
-use Prim.Native.Nat.{ℕ, suc, _+_, _-_, _*_, _≤_, _<_}
+use Prim.Native.Nat.{ℕ, _+_, _-_, _*_, _≤_, _<_}
 use mathlib.Core.Path.{_≡_, refl, sym, ap, _∙_, subst}
 use mathlib.Core.Bool.{Bool, true, false}
 use mathlib.Core.List.{List}
 use native.Mathlib.Omega.{arith}
 use native.Mathlib.Numerals.{add-one}
-use borrow.Author.Tests.{leb-true, leb-false, eqb-true, eqb-false}
+use borrow.Author.Tests.{eqb-true, eqb-false}
 use lib.ListN.{length, getD, set, length-set}
 use lib.Seq.{getD-set-same, getD-set-other}
-use lib.Dec.{leb, eqb}
+use lib.Dec.{eqb}
 use Rattle.label.specs.Bytes.{Bytes}
 use Rattle.label.specs.Limits.{rowWidth}
 use Rattle.label.specs.Layout.{Row}
@@ -16,7 +16,7 @@ use Rattle.walk.specs.declared.Stage.{Stage}
 use Rattle.walk.specs.declared.Stage.the-variants.{Indicator, VersionValue, ReleaseValue, TypeValue, CompressionValue, CountValue, Piece, Tag, LaterElement, FurtherSubElement, Body}
 use Rattle.walk.specs.declared.Cursor.{Cursor}
 use Rattle.walk.specs.Cursors.{kindOf, rowOf, nextCursor}
-use Rattle.reader.specs.Quick.{cursorAfter, Holds, Kept, Noted, NotedOne}
+use Rattle.reader.specs.Quick.{cursorAfter, Holds, Noted, NotedOne}
 
 -- kinds are small numbers
 pub kind-small : (s : Stage) → kindOf s ≤ 7

@@ -1,12 +1,12 @@
 -- A sweep over elements, a turn at a time: where it stands, that one element more keeps this, and that the last one closes the body.
 use Prim.Native.Nat.{ℕ, _+_, _-_, _≤_, _<_}
-use mathlib.Core.Path.{_≡_, refl, sym, ap, _∙_, subst}
-use mathlib.Core.Bool.{true, false, cond}
+use mathlib.Core.Path.{_≡_, sym, ap, _∙_, subst}
+use mathlib.Core.Bool.{cond}
 use mathlib.Core.List.{List}
 use native.Mathlib.Omega.{arith}
 use lib.ListN.{length, getD, take, drop, length-take, length-drop}
 use lib.Dec.{eqb}
-use Rattle.label.specs.Bytes.{Bytes, EOT, GS, RS, plain}
+use Rattle.label.specs.Bytes.{Bytes, GS, RS, plain}
 use Rattle.label.specs.Limits.{longest, mostRows}
 use Rattle.bodies.specs.declared.Kind.{Kind}
 use Rattle.bodies.specs.declared.Kind.the-variants.{Fields02, Fields96, Segments03, Segments04, Elements05, Elements06, Text}
@@ -16,7 +16,6 @@ use Rattle.judge.specs.Bodies.{bodyFound}
 use Rattle.walk.specs.declared.Stage.{Stage}
 use Rattle.walk.specs.declared.Stage.the-variants.{Piece}
 use Rattle.walk.specs.declared.Cursor.{Cursor}
-use Rattle.reader.specs.declared.quick.Passed.{Passed}
 use Rattle.walk.specs.Cursors.{ahead, plainRun, standing, plainRow, indicatorAt, afterPiece, following, nextCursor}
 use Rattle.reader.specs.Quick.{Framed, RunsTo, PassesTo, Noted, Notable, NotedOne, ElementsOf, BodySwept}
 use Rattle.reader.proofs.Framing.{byte-behind}

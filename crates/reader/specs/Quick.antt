@@ -2,13 +2,13 @@
 -- Of what it leaves it says nothing.
 use Prim.Native.Nat.{ℕ, zero, suc, _+_, _-_, _*_, _≤_, _<_}
 use mathlib.Core.Path.{_≡_}
-use mathlib.Core.Bool.{Bool, true, false, cond}
+use mathlib.Core.Bool.{Bool, true, cond}
 use mathlib.Core.List.{List, [], _∷_}
 use lib.ListN.{length, getD, take, drop}
 use Rattle.label.specs.declared.Counts.{Counts}
 use Rattle.label.specs.declared.Reading.the-variants.{Accepted}
 use Rattle.label.specs.Bytes.{Bytes, EOT, plain, digit}
-use Rattle.label.specs.Limits.{longest, mostRows, rowWidth}
+use Rattle.label.specs.Limits.{longest, rowWidth}
 use Rattle.label.specs.Formats.{edition2005, ruleOf}
 use Rattle.label.specs.Layout.{Row}
 use Rattle.label.specs.ReadEnvelope.{readBy, readEnvelope}
@@ -17,7 +17,6 @@ use Rattle.label.specs.ReadMessage.{agreement, reading}
 use Rattle.label.specs.Answer.{rowsRead}
 use Rattle.bodies.specs.declared.Kind.{Kind}
 use Rattle.bodies.specs.declared.Kind.the-variants.{Fields02, Fields96, Segments03, Segments04, Elements05, Elements06, Text}
-use Rattle.bodies.specs.Kinds.{pieceTest}
 use Rattle.judge.specs.declared.Found.the-variants.{Closed}
 use Rattle.judge.specs.Shown.{shown, judgedAs}
 use Rattle.judge.specs.Bodies.{bodyFound}

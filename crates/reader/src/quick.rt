@@ -17,7 +17,7 @@ use walk::Stage;
 use walk::kind_of;
 use walk::standing_at;
 ghost use mathlib.Core.Path.{_≡_};
-ghost use mathlib.Core.Bool.{true, false};
+ghost use mathlib.Core.Bool.{false};
 ghost use Prim.Native.Nat.{_+_, _≤_, _<_};
 ghost use lib.ListN.{length, drop, set};
 ghost use Rattle.label.specs.Bytes.{EOT as endByte};

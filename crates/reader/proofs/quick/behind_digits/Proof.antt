@@ -1,6 +1,6 @@
 -- `behind_digits` passes over at most three digits. The loop's invariant: from where it stands the digits that are still to be passed over end where they do from the start.
 use Prim.Native.Nat.{suc, _+_, _-_, _≤_, _<_}
-use mathlib.Core.Path.{_≡_, refl, sym, ap, _∙_}
+use mathlib.Core.Path.{_≡_, sym, ap, _∙_}
 use mathlib.Core.Bool.{true, false}
 use native.Mathlib.Omega.{arith}
 use borrow.Author.Needs.{needs}

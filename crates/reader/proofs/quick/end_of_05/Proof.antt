@@ -1,5 +1,5 @@
 -- `end_of_05`: the run of plain bytes, its length, and its first two bytes.
-use mathlib.Core.Path.{sym, ap, _∙_}
+use mathlib.Core.Path.{sym, _∙_}
 use mathlib.Core.Bool.{_&&_}
 use native.Mathlib.Omega.{arith}
 use Rattle.label.specs.Bytes.{plain, between}

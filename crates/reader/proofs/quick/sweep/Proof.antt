@@ -1,5 +1,5 @@
 -- `sweep` takes an envelope a turn. The loop's invariant: from where it stands the message comes to what it comes to from its header on, and its rows are noted.
-use Prim.Native.Nat.{_-_, _<_}
+use Prim.Native.Nat.{_-_}
 use mathlib.Core.Path.{_≡_, refl}
 use native.Mathlib.Omega.{arith}
 use borrow.Author.Needs.{needs}

@@ -1,5 +1,5 @@
 -- `sweep_format` is an arm for each format that is swept.
-use mathlib.Core.Path.{_≡_, refl}
+use mathlib.Core.Path.{refl}
 use native.Mathlib.Omega.{arith}
 use Rattle.reader.proofs.EnvelopeSweeps.{due-as, swept-as}
 use borrow.Author.Needs.{needs}

@@ -1,11 +1,9 @@
 -- `sweep_pieces` takes an element a turn. The loop's invariant: what is found of the body from here on is what is found from its start on, and its rows are noted.
-use Prim.Native.Nat.{_-_, _<_}
-use mathlib.Core.Path.{_≡_, refl, sym, ap, _∙_, subst}
+use Prim.Native.Nat.{_-_}
+use mathlib.Core.Path.{_≡_, refl, sym, subst}
 use native.Mathlib.Omega.{arith}
 use borrow.Author.Needs.{needs}
-use borrow.Author.Tests.{eqb-true}
-use lib.ListN.{length, getD}
-use Rattle.label.specs.Bytes.{GS, RS}
+use lib.ListN.{length}
 use Rattle.walk.specs.declared.Stage.the-variants.{Piece}
 use Rattle.walk.specs.declared.Cursor.{Cursor}
 use Rattle.reader.specs.Quick.{Notable}
