@@ -17,7 +17,7 @@ use Rattle.label.specs.Envelope.{Envelope}
 use Rattle.label.specs.Written.{parts}
 use Rattle.label.specs.Message.{header, isRestAlone, messageParts, rowsOf}
 use Rattle.label.specs.ReadMessage.{Outcome, read, refused, walk, enough, agreement, withinRows, reading}
-use Rattle.label.proofs.Walk.{walked, bound-is-enough}
+use Rattle.label.proofs.Walk.{unboundedWalk, bound-is-enough}
 use Rattle.label.proofs.RowItems.{rows-items}
 use Rattle.judge.specs.Shown.{judgedAs, totalRows, tallied, limited}
 use Rattle.judge.proofs.BodyLaws.{cond-yes, cond-no}
@@ -69,8 +69,8 @@ judge-header m n short is differs =
     ap (λ p. Refused (record { reason = NoMessageHeader; place = p })) is
     ∙ sym (ap judgedAs (cond-no _ _ _ (le-ltb longest (length m) short) ∙ cond-yes _ _ _ (lt-ltb (agreement header m) 4 (omega arith))))
 
-pub judge-walk : (m : Bytes) → length m ≤ longest → 4 ≤ agreement header m → 4 ≤ length m → limited (tallied 0 0 (walked edition2005 m true (drop 4 m))) ≡ judgedAs (reading edition2005 m)
-unfolding reading walked
+pub judge-walk : (m : Bytes) → length m ≤ longest → 4 ≤ agreement header m → 4 ≤ length m → limited (tallied 0 0 (unboundedWalk edition2005 m true (drop 4 m))) ≡ judgedAs (reading edition2005 m)
+unfolding reading unboundedWalk
 judge-walk m short agrees long =
     limited-law (walk edition2005 m (suc (length (drop 4 m))) true (drop 4 m))
     ∙ ap (λ o. judgedAs (withinRows o)) (bound-is-enough edition2005 m (suc (length (drop 4 m))) (enough m) true (drop 4 m) (omega arith) (omega (arith, length-drop 4 m)))

@@ -19,7 +19,7 @@ use Rattle.label.specs.Written.{parts}
 use Rattle.label.specs.ReadEnvelope.{Step, closed, whole, refuse, readEnvelope}
 use Rattle.label.specs.ReadMessage.{Outcome, read, refused, placeOf, andThen, afterTrailer, atBoundary, follow}
 use Rattle.label.proofs.EnvelopeSound.{StepSo, step-so}
-use Rattle.label.proofs.Walk.{walked, one-step-then-walk}
+use Rattle.label.proofs.Walk.{unboundedWalk, one-step-then-walk}
 use Rattle.leaves.proofs.Turns.{drop-step, drop-past}
 use Rattle.judge.specs.declared.Found.the-variants.{Closed, Whole, Refused}
 use Rattle.judge.specs.declared.State.{State}
@@ -45,7 +45,7 @@ module _ (m : Bytes) (at envelopes rows : ℕ) where
   boundary-more inside is more = sym (cond-no _ _ _ (lt-leb (length m) at inside) ∙ cond-yes _ _ _ is ∙ cond-no _ _ _ (lt-leb (length m) (at + 1) more))
 
   next : Bytes → Outcome
-  next = walked edition2005 m false
+  next = unboundedWalk edition2005 m false
 
   trailer-law : (rest : Bytes) → length rest ≡ length m - (at + 1) → at < length m
       → resultAfter m (cond (leb (length m) (at + 1)) (Done (Accepted (record { envelopes = envelopes; rows = rows }))) (Done (RefusedReading (record { reason = BytesAfterTrailer; place = at + 1 }))))
@@ -61,7 +61,7 @@ module _ (m : Bytes) (at envelopes rows : ℕ) where
       place = omega arith
 
   -- what a boundary comes to
-  pub boundary-law : at ≤ length m → resultAfter m (boundaryTurn m at envelopes rows) ≡ tallied envelopes rows (atBoundary m (walked edition2005 m false) (drop at m))
+  pub boundary-law : at ≤ length m → resultAfter m (boundaryTurn m at envelopes rows) ≡ tallied envelopes rows (atBoundary m (unboundedWalk edition2005 m false) (drop at m))
   boundary-law inside = by-end (leb (length m) at) refl
     where
       rest : Bytes
@@ -70,22 +70,22 @@ module _ (m : Bytes) (at envelopes rows : ℕ) where
       by-byte : at < length m → (t : Bool) → eqb (getD m at 0) EOT ≡ t
           → resultAfter m (cond t (cond (leb (length m) (at + 1)) (Done (Accepted (record { envelopes = envelopes; rows = rows }))) (Done (RefusedReading (record { reason = BytesAfterTrailer; place = at + 1 }))))
           (Go (record { at = at; first = false; envelopes = envelopes; rows = rows })))
-          ≡ tallied envelopes rows (elim t [ true ↦ afterTrailer m rest | false ↦ walked edition2005 m false (getD m at 0 ∷ rest) ])
+          ≡ tallied envelopes rows (elim t [ true ↦ afterTrailer m rest | false ↦ unboundedWalk edition2005 m false (getD m at 0 ∷ rest) ])
       by-byte less true is = trailer-law rest (length-drop (at + 1) m) less
-      by-byte less false is = ap (λ l. tallied envelopes rows (walked edition2005 m false l)) (drop-step m at less)
+      by-byte less false is = ap (λ l. tallied envelopes rows (unboundedWalk edition2005 m false l)) (drop-step m at less)
 
       by-end : (t : Bool) → leb (length m) at ≡ t
           → resultAfter m (cond t (Done (RefusedReading (record { reason = NoTrailer; place = at })))
           (cond (eqb (getD m at 0) EOT) (cond (leb (length m) (at + 1)) (Done (Accepted (record { envelopes = envelopes; rows = rows }))) (Done (RefusedReading (record { reason = BytesAfterTrailer; place = at + 1 }))))
           (Go (record { at = at; first = false; envelopes = envelopes; rows = rows }))))
-          ≡ tallied envelopes rows (atBoundary m (walked edition2005 m false) (drop at m))
+          ≡ tallied envelopes rows (atBoundary m (unboundedWalk edition2005 m false) (drop at m))
       by-end true past =
           let over = leb-true (length m) at past in
           let here : at ≡ length m = omega arith in
-          ap (λ p. RefusedReading (record { reason = NoTrailer; place = p })) here ∙ sym (ap (λ l. tallied envelopes rows (atBoundary m (walked edition2005 m false) l)) (drop-past m at over))
+          ap (λ p. RefusedReading (record { reason = NoTrailer; place = p })) here ∙ sym (ap (λ l. tallied envelopes rows (atBoundary m (unboundedWalk edition2005 m false) l)) (drop-past m at over))
       by-end false inside =
           let less = leb-false (length m) at inside in
-          by-byte less (eqb (getD m at 0) EOT) refl ∙ sym (ap (λ l. tallied envelopes rows (atBoundary m (walked edition2005 m false) l)) (drop-step m at less))
+          by-byte less (eqb (getD m at 0) EOT) refl ∙ sym (ap (λ l. tallied envelopes rows (atBoundary m (unboundedWalk edition2005 m false) l)) (drop-step m at less))
 
   boundary-further : at ≤ length m → envelopes ≤ at → rows ≤ at → (from : ℕ) → from < at → Further m from (boundaryTurn m at envelopes rows)
   boundary-further inside fewE fewR from less = by (leb (length m) at) (eqb (getD m at 0) EOT) (leb (length m) (at + 1))
@@ -118,8 +118,8 @@ left-at m at e left inside is =
 
 module _ (m : Bytes) (s : State) (sound : Sound m s) where
   result-by : (step : Step) → readEnvelope edition2005 (s .first) (drop (s .at) m) ≡ step
-      → resultOf m s ≡ tallied (s .envelopes) (s .rows) (follow m (walked edition2005 m false) (drop (s .at) m) step)
-  result-by step is = ap (tallied (s .envelopes) (s .rows)) (one-step-then-walk edition2005 m (s .first) (drop (s .at) m) ∙ ap (follow m (walked edition2005 m false) (drop (s .at) m)) is)
+      → resultOf m s ≡ tallied (s .envelopes) (s .rows) (follow m (unboundedWalk edition2005 m false) (drop (s .at) m) step)
+  result-by step is = ap (tallied (s .envelopes) (s .rows)) (one-step-then-walk edition2005 m (s .first) (drop (s .at) m) ∙ ap (follow m (unboundedWalk edition2005 m false) (drop (s .at) m)) is)
 
   -- where an envelope is closed, how far it reaches and how many rows it has
   pub record ClosedBy (next rows : ℕ) : Type 0 where
@@ -142,8 +142,8 @@ module _ (m : Bytes) (s : State) (sound : Sound m s) where
         further = omega arith;
         same =
             boundary-law m next (s .envelopes + 1) (s .rows + rows) inside
-            ∙ (λ i. tallied (s .envelopes + 1) (s .rows + sym its i) (atBoundary m (walked edition2005 m false) ((ap (λ n. drop n m) (sym ends) ∙ left-at m (s .at) e left within (so .bytes)) i)))
-            ∙ sym (tallied-then (s .envelopes) (s .rows) e (atBoundary m (walked edition2005 m false) left))
+            ∙ (λ i. tallied (s .envelopes + 1) (s .rows + sym its i) (atBoundary m (unboundedWalk edition2005 m false) ((ap (λ n. drop n m) (sym ends) ∙ left-at m (s .at) e left within (so .bytes)) i)))
+            ∙ sym (tallied-then (s .envelopes) (s .rows) e (atBoundary m (unboundedWalk edition2005 m false) left))
             ∙ sym (result-by (closed e left) is);
       }
   closed-by (whole e) is so next rows found = let z : _≡_ {A = ℕ} 0 1 = cc in absurd (omega arith)

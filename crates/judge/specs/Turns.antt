@@ -9,7 +9,7 @@ use Rattle.label.specs.declared.Reading.the-variants.{Accepted, Refused}
 use Rattle.label.specs.declared.Reason.the-variants.{NoTrailer, BytesAfterTrailer}
 use Rattle.label.specs.Bytes.{Bytes, EOT}
 use Rattle.label.specs.Formats.{edition2005}
-use Rattle.label.proofs.Walk.{walked}
+use Rattle.label.proofs.Walk.{unboundedWalk}
 use Rattle.judge.specs.declared.State.{State}
 use Rattle.judge.specs.declared.Turn.{Turn}
 use Rattle.judge.specs.declared.Turn.the-variants.{Done, Go}
@@ -17,7 +17,7 @@ use Rattle.judge.specs.Shown.{tallied}
 
 -- what a message comes to from a state on
 abbrev pub resultOf : Bytes → State → Reading
-resultOf m s = tallied (s .envelopes) (s .rows) (walked edition2005 m (s .first) (drop (s .at) m))
+resultOf m s = tallied (s .envelopes) (s .rows) (unboundedWalk edition2005 m (s .first) (drop (s .at) m))
 
 abbrev pub resultAfter : Bytes → Turn → Reading
 resultAfter m (Done r) = r

@@ -13,7 +13,7 @@ ghost use mathlib.Core.Bool.{true};
 ghost use Prim.Native.Nat.{_≤_};
 ghost use lib.ListN.{length, drop};
 ghost use Rattle.label.specs.Formats.{edition2005};
-ghost use Rattle.label.proofs.Walk.{walked};
+ghost use Rattle.label.proofs.Walk.{unboundedWalk};
 ghost use Rattle.judge.specs.Shown.{tallied};
 ghost use Rattle.judge.specs.Turns.{Sound, TurnSo, boundaryTurn};
 
@@ -67,7 +67,7 @@ fn turn(m: &[u8], s: State) -> Turn
 // All envelopes from behind the header on.
 pub(crate) fn walk_envelopes(m: &[u8]) -> Reading
     requires { ⌜ 4 ≤ length (now m) ⌝ }
-    ensures { λ r. ⌜ r ≡ tallied 0 0 (walked edition2005 (now (m .entry)) true (drop 4 (now (m .entry)))) ⌝ }
+    ensures { λ r. ⌜ r ≡ tallied 0 0 (unboundedWalk edition2005 (now (m .entry)) true (drop 4 (now (m .entry)))) ⌝ }
 {
     let mut s = State {
         at: 4,

@@ -38,11 +38,11 @@ bound-is-enough edition m (suc n) (suc k) first bs hn hk =
     (λ left shorter. bound-is-enough edition m n k false left (omega arith) (omega arith))
 
 -- the walk with no bound: one step, and then the walk
-unfoldable pub walked : Edition → Bytes → Bool → Bytes → Outcome
-walked edition m first bs = walk edition m (suc (length bs)) first bs
+unfoldable pub unboundedWalk : Edition → Bytes → Bool → Bytes → Outcome
+unboundedWalk edition m first bs = walk edition m (suc (length bs)) first bs
 
-pub one-step-then-walk : (edition : Edition) (m : Bytes) (first : Bool) (bs : Bytes) → walked edition m first bs ≡ follow m (walked edition m false) bs (readEnvelope edition first bs)
-unfolding walked walk
+pub one-step-then-walk : (edition : Edition) (m : Bytes) (first : Bool) (bs : Bytes) → unboundedWalk edition m first bs ≡ follow m (unboundedWalk edition m false) bs (readEnvelope edition first bs)
+unfolding unboundedWalk walk
 one-step-then-walk edition m first bs =
-    follow-agree edition m (walk edition m (length bs) false) (walked edition m false) first bs (readEnvelope edition first bs) (step-so edition first bs)
+    follow-agree edition m (walk edition m (length bs) false) (unboundedWalk edition m false) first bs (readEnvelope edition first bs) (step-so edition first bs)
     (λ left shorter. bound-is-enough edition m (length bs) (suc (length left)) false left shorter (omega arith))

@@ -13,7 +13,7 @@ use Rattle.label.specs.Bytes.{Bytes, EOT}
 use Rattle.label.specs.Limits.{mostRows}
 use Rattle.label.specs.Formats.{edition2005}
 use Rattle.label.specs.ReadMessage.{reading}
-use Rattle.label.proofs.Walk.{walked}
+use Rattle.label.proofs.Walk.{unboundedWalk}
 use Rattle.judge.specs.declared.State.{State}
 use Rattle.judge.specs.declared.Turn.{Turn}
 use Rattle.judge.specs.declared.Turn.the-variants.{Go}
@@ -40,7 +40,7 @@ pub record Going (m : Bytes) (from : ℕ) (notes : List ℕ) (at envelopes rows 
   pub behind : 4 ≤ at
   pub inside : at < length m
   pub sound : Sound m (stateOf at first envelopes rows)
-  pub same : resultOf m (stateOf at first envelopes rows) ≡ tallied 0 0 (walked edition2005 m true (drop 4 m))
+  pub same : resultOf m (stateOf at first envelopes rows) ≡ tallied 0 0 (unboundedWalk edition2005 m true (drop 4 m))
   pub noted : Noted m from notes rows (indicatorAt m at)
 
 pub going-first : (m : Bytes) (from : ℕ) (notes : List ℕ) → Headed m → Going m from notes 4 0 0

@@ -5,7 +5,7 @@ use Prim.Native.Nat.{_-_}
 use mathlib.Core.Bool.{true}
 use lib.ListN.{length, drop}
 use Rattle.label.specs.Formats.{edition2005}
-use Rattle.label.proofs.Walk.{walked}
+use Rattle.label.proofs.Walk.{unboundedWalk}
 use Rattle.judge.specs.Shown.{tallied}
 use Rattle.judge.specs.Turns.{resultOf, Sound, TurnSo}
 use borrow.Author.Needs.{needs}
@@ -13,7 +13,7 @@ use Rattle.judge.proofs.walk.walk_envelopes.Statement.{statement}
 use Rattle.judge.proofs.walk.walk_envelopes.Tie as tie
 
 abbrev Inv-loop : tie.InvT-loop
-Inv-loop m s₀ s = Sound m s × (resultOf m s ≡ tallied 0 0 (walked edition2005 m true (drop 4 m)))
+Inv-loop m s₀ s = Sound m s × (resultOf m s ≡ tallied 0 0 (unboundedWalk edition2005 m true (drop 4 m)))
 
 abbrev μ-loop : tie.MeasureT-loop
 μ-loop m s₀ s = length m - s .at
