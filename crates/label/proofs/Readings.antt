@@ -1,10 +1,12 @@
 -- The places of document 01 that can be read in two ways, and messages with several faults at once, whose order decides: what the reading definition
 -- makes of each (docs/DECISIONS.md, the readings). By computation. H is `[)>` RS.
 use Prim.Native.Nat.{ℕ}
-use mathlib.Core.Path.{refl}
-use mathlib.Core.List.{List, [], _∷_, _++_}
+use mathlib.Core.Path.{_≡_, refl}
+use mathlib.Core.List.{List, [], _∷_, _++_, map}
 use lib.ListN.{replicate}
 use Rattle.label.specs.Bytes.{Bytes, ascii}
+use Rattle.label.specs.Formats.{edition2005}
+use Rattle.label.specs.Answer.{readAnswer}
 use Rattle.label.proofs.Cases.{Case, Stand, all-definitions}
 
 -- Reading 1: the place of 3 is where the indicator is due
@@ -49,9 +51,17 @@ end01 = record { input = ascii "[)>\u{1e}01"; lines = (8 ∷ 4 ∷ []) ∷ [] }
 abbrev end03 : Case
 end03 = record { input = ascii "[)>\u{1e}03"; lines = (8 ∷ 4 ∷ []) ∷ [] }
 
+-- H `04`
+abbrev end04 : Case
+end04 = record { input = ascii "[)>\u{1e}04"; lines = (8 ∷ 4 ∷ []) ∷ [] }
+
 -- H `05`
 abbrev end05 : Case
 end05 = record { input = ascii "[)>\u{1e}05"; lines = (8 ∷ 4 ∷ []) ∷ [] }
+
+-- H `06`
+abbrev end06 : Case
+end06 = record { input = ascii "[)>\u{1e}06"; lines = (8 ∷ 4 ∷ []) ∷ [] }
 
 -- H `09`
 abbrev end09 : Case
@@ -99,6 +109,10 @@ restWithGS = record { input = ascii "[)>\u{1e}02\u{1d}"; lines = (0 ∷ 1 ∷ 2 
 abbrev version06 : Case
 version06 = record { input = ascii "[)>\u{1e}01\u{1d}0652001\u{1d}840\u{1d}001\u{1d}1Z004951\u{1d}UPSN\u{1e}\u{4}"; lines = (8 ∷ 4 ∷ []) ∷ [] }
 
+-- version 56
+abbrev version56 : Case
+version56 = record { input = ascii "[)>\u{1e}01\u{1d}5652001\u{1d}840\u{1d}001\u{1d}1Z004951\u{1d}UPSN\u{1e}\u{4}"; lines = (8 ∷ 4 ∷ []) ∷ [] }
+
 -- version 02 with an empty postal code
 abbrev noPostalCode02 : Case
 noPostalCode02 = record { input = ascii "[)>\u{1e}01\u{1d}02\u{1d}840\u{1d}001\u{1d}1Z\u{1d}UP\u{1e}\u{4}"; lines = (0 ∷ 1 ∷ 7 ∷ []) ∷ (1 ∷ 1 ∷ 4 ∷ 2 ∷ []) ∷ (2 ∷ 1 ∷ 7 ∷ 2 ∷ []) ∷ (3 ∷ 1 ∷ 9 ∷ 0 ∷ []) ∷ (3 ∷ 1 ∷ 10 ∷ 3 ∷ []) ∷ (3 ∷ 1 ∷ 14 ∷ 3 ∷ []) ∷ (3 ∷ 1 ∷ 18 ∷ 2 ∷ []) ∷ (3 ∷ 1 ∷ 21 ∷ 2 ∷ []) ∷ [] }
@@ -133,9 +147,17 @@ name96 = record { input = ascii "[)>\u{1e}01\u{1d}96ABC\u{1d}840\u{1d}1\u{1d}1\u
 abbrev emptyFields : Case
 emptyFields = record { input = ascii "[)>\u{1e}01\u{1d}02\u{1e}\u{4}"; lines = (11 ∷ 4 ∷ []) ∷ [] }
 
+-- format 03
+abbrev emptySegments03 : Case
+emptySegments03 = record { input = ascii "[)>\u{1e}03004010\u{1c}\u{1d}\u{1f}\u{1e}\u{4}"; lines = (11 ∷ 4 ∷ []) ∷ [] }
+
 -- format 04
 abbrev emptySegments : Case
 emptySegments = record { input = ascii "[)>\u{1e}04004010\u{1c}\u{1d}\u{1f}\u{1e}\u{4}"; lines = (11 ∷ 4 ∷ []) ∷ [] }
+
+-- format 05
+abbrev emptyElements05 : Case
+emptyElements05 = record { input = ascii "[)>\u{1e}05\u{1d}\u{1e}\u{4}"; lines = (11 ∷ 4 ∷ []) ∷ [] }
 
 -- format 06
 abbrev emptyElements : Case
@@ -163,6 +185,18 @@ binary03 = record { input = ascii "[)>\u{1e}03004010\u{1c}\u{1d}\u{1f}BIN\u{1c}\
 abbrev binary04 : Case
 binary04 = record { input = ascii "[)>\u{1e}04004010\u{1c}\u{1d}\u{1f}BIN\u{1c}\u{1e}\u{4}"; lines = (0 ∷ 1 ∷ 3 ∷ []) ∷ (1 ∷ 4 ∷ 4 ∷ 2 ∷ []) ∷ (2 ∷ 4 ∷ 6 ∷ 6 ∷ []) ∷ (4 ∷ 4 ∷ 15 ∷ 3 ∷ []) ∷ [] }
 
+-- `BIN` in 03, but not as a tag
+abbrev binaryElement : Case
+binaryElement = record { input = ascii "[)>\u{1e}03004010\u{1c}\u{1d}\u{1f}N1\u{1d}BIN\u{1c}\u{1e}\u{4}"; lines = (0 ∷ 1 ∷ 4 ∷ []) ∷ (1 ∷ 3 ∷ 4 ∷ 2 ∷ []) ∷ (2 ∷ 3 ∷ 6 ∷ 6 ∷ []) ∷ (4 ∷ 3 ∷ 15 ∷ 2 ∷ []) ∷ (5 ∷ 3 ∷ 18 ∷ 3 ∷ []) ∷ [] }
+
+-- `BIM` in 03
+abbrev nearlyBinary : Case
+nearlyBinary = record { input = ascii "[)>\u{1e}03004010\u{1c}\u{1d}\u{1f}BIM\u{1c}\u{1e}\u{4}"; lines = (0 ∷ 1 ∷ 3 ∷ []) ∷ (1 ∷ 3 ∷ 4 ∷ 2 ∷ []) ∷ (2 ∷ 3 ∷ 6 ∷ 6 ∷ []) ∷ (4 ∷ 3 ∷ 15 ∷ 3 ∷ []) ∷ [] }
+
+-- `BI` in 03
+abbrev halfBinary : Case
+halfBinary = record { input = ascii "[)>\u{1e}03004010\u{1c}\u{1d}\u{1f}BI\u{1c}\u{1e}\u{4}"; lines = (0 ∷ 1 ∷ 3 ∷ []) ∷ (1 ∷ 3 ∷ 4 ∷ 2 ∷ []) ∷ (2 ∷ 3 ∷ 6 ∷ 6 ∷ []) ∷ (4 ∷ 3 ∷ 15 ∷ 2 ∷ []) ∷ [] }
+
 -- Reading 12 and 13: permitted bytes go by the format; a bad byte in a header is 8; 12, then 10, then 11
 
 -- a letter in the country
@@ -172,6 +206,22 @@ letterInCountry = record { input = ascii "[)>\u{1e}01\u{1d}02\u{1d}84A\u{1d}001\
 -- 7F in the country
 abbrev deleteInCountry : Case
 deleteInCountry = record { input = ascii "[)>\u{1e}01\u{1d}02\u{1d}84\u{7f}\u{1d}001\u{1d}1Z\u{1d}UP\u{1e}\u{4}"; lines = (10 ∷ 4 ∷ []) ∷ [] }
+
+-- US in 01
+abbrev unitInFields : Case
+unitInFields = record { input = ascii "[)>\u{1e}01\u{1d}02\u{1f}\u{1e}\u{4}"; lines = (10 ∷ 4 ∷ []) ∷ [] }
+
+-- FS in 05
+abbrev segmentEndInElement05 : Case
+segmentEndInElement05 = record { input = ascii "[)>\u{1e}05\u{1d}01\u{1c}\u{1e}\u{4}"; lines = (10 ∷ 4 ∷ []) ∷ [] }
+
+-- FS in 06
+abbrev segmentEndInElement06 : Case
+segmentEndInElement06 = record { input = ascii "[)>\u{1e}06\u{1d}Q\u{1c}3\u{1e}\u{4}"; lines = (10 ∷ 4 ∷ []) ∷ [] }
+
+-- 7F in 04
+abbrev deleteInSegment : Case
+deleteInSegment = record { input = ascii "[)>\u{1e}04004010\u{1c}\u{1d}\u{1f}N1\u{1d}\u{7f}\u{1c}\u{1e}\u{4}"; lines = (10 ∷ 4 ∷ []) ∷ [] }
 
 -- US in a tag
 abbrev taggedUS : Case
@@ -211,18 +261,26 @@ sixteenDigits = record { input = ascii "[)>\u{1e}09\u{1d}A\u{1d}\u{1d}0000000000
 abbrev rsTooEarly : Case
 rsTooEarly = record { input = ascii "[)>\u{1e}09\u{1d}A\u{1d}\u{1d}3\u{1d}AB\u{1e}\u{4}"; lines = (9 ∷ 4 ∷ []) ∷ [] }
 
+-- a payload whose RS is the last byte: it fits, and the end is missing
+abbrev payloadToTheEnd : Case
+payloadToTheEnd = record { input = ascii "[)>\u{1e}09\u{1d}A\u{1d}\u{1d}2\u{1d}XY\u{1e}"; lines = (4 ∷ 15 ∷ []) ∷ [] }
+
+-- the same with a count of one more
+abbrev payloadPastTheEnd : Case
+payloadPastTheEnd = record { input = ascii "[)>\u{1e}09\u{1d}A\u{1d}\u{1d}3\u{1d}XY\u{1e}"; lines = (9 ∷ 4 ∷ []) ∷ [] }
+
 abbrev pub readings : List Case
 readings =
     oddIndicator ∷ halfIndicator ∷ halfLateIndicator
     ∷ otherHeader ∷ cutHeader ∷ cutOtherHeader
-    ∷ end08 ∷ end01 ∷ end03 ∷ end05 ∷ end09 ∷ end07 ∷ end02
+    ∷ end08 ∷ end01 ∷ end03 ∷ end04 ∷ end05 ∷ end06 ∷ end09 ∷ end07 ∷ end02
     ∷ secondTransport ∷ lateRest ∷ lateHeader
     ∷ restWithRS ∷ restWithEOT ∷ restWithGS
-    ∷ version06 ∷ noPostalCode02 ∷ noPostalCode96 ∷ fourFields ∷ emptyLastField ∷ emptyLaterFields ∷ name02 ∷ name96
-    ∷ emptyFields ∷ emptySegments ∷ emptyElements ∷ emptyPayload
-    ∷ emptySegment ∷ unendedSegment ∷ binary03 ∷ binary04
-    ∷ letterInCountry ∷ deleteInCountry ∷ taggedUS ∷ deleteInHeader ∷ noRS ∷ notPermitted ∷ trailerInText
-    ∷ leadingZero ∷ fifteenDigits ∷ sixteenDigits ∷ rsTooEarly
+    ∷ version06 ∷ version56 ∷ noPostalCode02 ∷ noPostalCode96 ∷ fourFields ∷ emptyLastField ∷ emptyLaterFields ∷ name02 ∷ name96
+    ∷ emptyFields ∷ emptySegments03 ∷ emptySegments ∷ emptyElements05 ∷ emptyElements ∷ emptyPayload
+    ∷ emptySegment ∷ unendedSegment ∷ binary03 ∷ binary04 ∷ binaryElement ∷ nearlyBinary ∷ halfBinary
+    ∷ letterInCountry ∷ deleteInCountry ∷ unitInFields ∷ segmentEndInElement05 ∷ segmentEndInElement06 ∷ deleteInSegment ∷ taggedUS ∷ deleteInHeader ∷ noRS ∷ notPermitted ∷ trailerInText
+    ∷ leadingZero ∷ fifteenDigits ∷ sixteenDigits ∷ rsTooEarly ∷ payloadToTheEnd ∷ payloadPastTheEnd
     ∷ []
 
 pub the-readings : Stand readings
@@ -236,19 +294,56 @@ concatenated [] = []
 concatenated (bs ∷ rest) = bs ++ concatenated rest
 
 -- H `06`, then n elements, RS and what follows
-abbrev manyElements : ℕ → Bytes → Bytes
+abbrev pub manyElements : ℕ → Bytes → Bytes
 manyElements n after = ascii "[)>\u{1e}06" ++ (concatenated (replicate n (ascii "\u{1d}Q3")) ++ (ascii "\u{1e}" ++ after))
+
+-- H `07`, then n bytes of text, RS EOT: n + 8 bytes
+abbrev pub longText : ℕ → Bytes
+longText n = ascii "[)>\u{1e}07" ++ (replicate n 0x41 ++ ascii "\u{1e}\u{4}")
+
+-- 1,025 rows, and then another fault
+abbrev tooManyAnd : Bytes → ℕ → ℕ → Case
+tooManyAnd after reason place = record { input = manyElements 1024 after; lines = (reason ∷ place ∷ []) ∷ [] }
 
 abbrev pub limits : List Case
 limits =
     record { input = replicate 4097 0x41; lines = (1 ∷ 4096 ∷ []) ∷ [] }
     ∷ record { input = replicate 4096 0x41; lines = (2 ∷ 0 ∷ []) ∷ [] }
-    ∷ record { input = manyElements 1024 (ascii "\u{4}"); lines = (13 ∷ 0 ∷ []) ∷ [] }
-    ∷ record { input = manyElements 1024 []; lines = (4 ∷ 3079 ∷ []) ∷ [] }
-    ∷ record { input = manyElements 1024 (ascii "\u{4}\u{4}"); lines = (5 ∷ 3080 ∷ []) ∷ [] }
-    ∷ record { input = manyElements 1024 (ascii "08"); lines = (6 ∷ 3079 ∷ []) ∷ [] }
+    ∷ tooManyAnd (ascii "\u{4}") 13 0
+    ∷ tooManyAnd (ascii "0x") 3 3079
+    ∷ tooManyAnd [] 4 3079
+    ∷ tooManyAnd (ascii "\u{4}\u{4}") 5 3080
+    ∷ tooManyAnd (ascii "08") 6 3079
+    ∷ tooManyAnd (ascii "01") 7 3079
+    ∷ tooManyAnd (ascii "06\u{1e}\u{4}") 8 3079
+    ∷ tooManyAnd (ascii "09\u{1d}A\u{1d}\u{1d}2\u{1d}\u{1e}\u{4}") 9 3079
+    ∷ tooManyAnd (ascii "07\u{4}\u{1e}\u{4}") 10 3079
+    ∷ tooManyAnd (ascii "06\u{1d}\u{1e}\u{4}") 11 3079
+    ∷ tooManyAnd (ascii "07") 12 3079
     ∷ []
 
 pub the-limits : Stand limits
 unfolding all-definitions
 the-limits = refl
+
+-- Reading 6 and both limits at both edges: what is answered for a table's room; 13 comes before 14
+
+pub record RoomCase : Type 0 where
+  pub input : Bytes
+  pub room : ℕ
+  pub answer : List ℕ
+
+abbrev pub rooms : List RoomCase
+rooms =
+    record { input = longText 4088; room = 2; answer = 0 ∷ 1 ∷ 2 ∷ [] }
+    ∷ record { input = longText 4088; room = 1; answer = 14 ∷ 0 ∷ [] }
+    ∷ record { input = longText 4089; room = 2; answer = 1 ∷ 4096 ∷ [] }
+    ∷ record { input = manyElements 1023 (ascii "\u{4}"); room = 1024; answer = 0 ∷ 1 ∷ 1024 ∷ [] }
+    ∷ record { input = manyElements 1023 (ascii "\u{4}"); room = 1023; answer = 14 ∷ 0 ∷ [] }
+    ∷ record { input = manyElements 1024 (ascii "\u{4}"); room = 1025; answer = 13 ∷ 0 ∷ [] }
+    ∷ record { input = manyElements 1024 (ascii "\u{4}"); room = 1024; answer = 13 ∷ 0 ∷ [] }
+    ∷ []
+
+pub the-room : map (λ (c : RoomCase). readAnswer edition2005 (c .input) (c .room)) rooms ≡ map (λ (c : RoomCase). c .answer) rooms
+unfolding all-definitions
+the-room = refl

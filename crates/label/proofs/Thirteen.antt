@@ -1,7 +1,8 @@
 -- The thirteen cases of 01's table 'Proved', as one statement about the reading definition; and for those that are accepted, that the writing side
 -- has them too. All by computation. H is `[)>` RS.
+use Prim.Native.Nat.{ℕ}
 use mathlib.Core.Path.{_≡_, refl}
-use mathlib.Core.List.{List, [], _∷_, map, tail}
+use mathlib.Core.List.{List, [], _∷_, _++_, map, tail}
 use Rattle.label.specs.Bytes.{ascii, EOT, GS, RS}
 use Rattle.label.specs.Elements.{element06}
 use Rattle.label.specs.Segments.{tag03}
@@ -31,9 +32,9 @@ emptyText = record { input = ascii "[)>\u{1e}07\u{1e}\u{4}"; lines = (0 ∷ 1 �
 abbrev pub noTrailer : Case
 noTrailer = record { input = ascii "[)>\u{1e}06\u{1d}1P7\u{1d}Q3\u{1e}"; lines = (4 ∷ 14 ∷ []) ∷ [] }
 
--- the first message and one byte
-abbrev pub oneByteMore : Case
-oneByteMore = record { input = ascii "[)>\u{1e}06\u{1d}1P7\u{1d}Q3\u{1e}\u{4}A"; lines = (5 ∷ 15 ∷ []) ∷ [] }
+-- the first message and one byte, whichever it is
+abbrev pub oneByteMore : ℕ → Case
+oneByteMore b = record { input = carton .input ++ (b ∷ []); lines = (5 ∷ 15 ∷ []) ∷ [] }
 
 -- H `08` RS EOT
 abbrev pub format08 : Case
@@ -63,15 +64,15 @@ oneSegment = record { input = ascii "[)>\u{1e}03004010\u{1c}\u{1d}\u{1f}N1\u{1d}
 abbrev pub allTheRest : Case
 allTheRest = record { input = ascii "[)>\u{1e}02X"; lines = (0 ∷ 1 ∷ 2 ∷ []) ∷ (1 ∷ 2 ∷ 4 ∷ 2 ∷ []) ∷ (7 ∷ 2 ∷ 6 ∷ 1 ∷ []) ∷ [] }
 
--- the table
-abbrev pub thirteen : List Case
-thirteen =
+-- the table, with the one byte that its sixth case has more
+abbrev pub thirteen : ℕ → List Case
+thirteen b =
     carton
     ∷ nothing
     ∷ noEnvelope
     ∷ emptyText
     ∷ noTrailer
-    ∷ oneByteMore
+    ∷ oneByteMore b
     ∷ format08
     ∷ lateTransport
     ∷ payload
@@ -81,9 +82,9 @@ thirteen =
     ∷ allTheRest
     ∷ []
 
-pub the-thirteen : Stand thirteen
+pub the-thirteen : (b : ℕ) → Stand (thirteen b)
 unfolding all-definitions
-the-thirteen = refl
+the-thirteen b = refl
 
 -- Of the accepted cases: the list of envelopes, written by hand, with which the message is good and has the table's rows
 record Example : Type 0 where

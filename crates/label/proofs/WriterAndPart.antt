@@ -1,15 +1,16 @@
 -- What the definitions of the writer and of the part make of some rows and messages: the carton of 01 written back, its contents taken from other data,
 -- each refusal, and parts. By computation.
-use Prim.Native.Nat.{ℕ}
+use Prim.Native.Nat.{ℕ, zero, suc}
 use mathlib.Core.Path.{_≡_, refl}
 use mathlib.Core.List.{List, [], _∷_, _++_, map}
-use lib.ListN.{length}
+use lib.ListN.{length, replicate}
 use Rattle.label.specs.Bytes.{Bytes, ascii}
 use Rattle.label.specs.Formats.{edition2005}
 use Rattle.label.specs.Part.{Stretch, partOf}
 use Rattle.label.specs.Writing.{writeAnswer, outputAfter}
 use Rattle.label.proofs.Cases.{all-definitions}
-use Rattle.label.proofs.Thirteen.{carton, noTrailer}
+use Rattle.label.proofs.Thirteen.{carton, emptyText, noTrailer}
+use Rattle.label.proofs.Readings.{manyElements, longText}
 
 -- data, row numbers and an output; the answer, and the output afterwards
 pub record WriterCase : Type 0 where
@@ -31,20 +32,37 @@ short = ascii "12345678901234"
 abbrev long : Bytes
 long = ascii "1234567890123456"
 
+-- n rows, each of them an indicator's
+abbrev manyIndicators : ℕ → List ℕ
+manyIndicators zero = []
+manyIndicators (suc n) = 1 ∷ 6 ∷ 4 ∷ 2 ∷ manyIndicators n
+
+-- `07` and a text that is too long by a byte
+abbrev textData : Bytes
+textData = ascii "07" ++ replicate 4089 0x41
+
 abbrev pub writerCases : List WriterCase
 writerCases =
     record { held = cartonBytes; rows = cartonRows; output = long; answer = 0 ∷ 15 ∷ []; after = cartonBytes ++ ascii "6" }
     -- contents from elsewhere, out of order and overlapping
     ∷ record { held = ascii "Q31P706"; rows = 1 ∷ 6 ∷ 5 ∷ 2 ∷ 3 ∷ 6 ∷ 2 ∷ 3 ∷ 3 ∷ 6 ∷ 0 ∷ 2 ∷ []; output = long; answer = 0 ∷ 15 ∷ []; after = cartonBytes ++ ascii "6" }
-    -- 20: no whole row; a stretch past the data, an empty one too
+    -- an empty stretch at the end of the data
+    ∷ record { held = ascii "07"; rows = 1 ∷ 7 ∷ 0 ∷ 2 ∷ 7 ∷ 7 ∷ 2 ∷ 0 ∷ []; output = short; answer = 0 ∷ 8 ∷ []; after = emptyText .input ++ ascii "901234" }
+    -- 20: no whole row; too many; a stretch past the data, an empty one too, and one whose end is past 32 bits
     ∷ record { held = cartonBytes; rows = 1 ∷ 6 ∷ 4 ∷ []; output = long; answer = 20 ∷ []; after = long }
     ∷ record { held = cartonBytes; rows = 1 ∷ 6 ∷ 14 ∷ 2 ∷ []; output = long; answer = 20 ∷ []; after = long }
     ∷ record { held = cartonBytes; rows = 1 ∷ 6 ∷ 16 ∷ 0 ∷ []; output = long; answer = 20 ∷ []; after = long }
+    ∷ record { held = cartonBytes; rows = 1 ∷ 6 ∷ 4294967295 ∷ 2 ∷ []; output = long; answer = 20 ∷ []; after = long }
+    ∷ record { held = cartonBytes; rows = manyIndicators 1025; output = long; answer = 20 ∷ []; after = long }
+    ∷ record { held = cartonBytes; rows = manyIndicators 1024; output = long; answer = 21 ∷ []; after = long }
     -- 21: no rows; an indicator that says another format; an element too few bytes long; a kind that the format hasn't; before 22
     ∷ record { held = cartonBytes; rows = []; output = long; answer = 21 ∷ []; after = long }
     ∷ record { held = cartonBytes; rows = 1 ∷ 5 ∷ 4 ∷ 2 ∷ 3 ∷ 6 ∷ 7 ∷ 3 ∷ []; output = long; answer = 21 ∷ []; after = long }
     ∷ record { held = cartonBytes; rows = 1 ∷ 6 ∷ 4 ∷ 2 ∷ 3 ∷ 6 ∷ 7 ∷ 1 ∷ []; output = long; answer = 21 ∷ []; after = long }
     ∷ record { held = cartonBytes; rows = 1 ∷ 6 ∷ 4 ∷ 2 ∷ 4 ∷ 6 ∷ 7 ∷ 3 ∷ []; output = []; answer = 21 ∷ []; after = [] }
+    -- 21: a message over the limit; and with a byte less 22
+    ∷ record { held = textData; rows = 1 ∷ 7 ∷ 0 ∷ 2 ∷ 7 ∷ 7 ∷ 2 ∷ 4089 ∷ []; output = short; answer = 21 ∷ []; after = short }
+    ∷ record { held = textData; rows = 1 ∷ 7 ∷ 0 ∷ 2 ∷ 7 ∷ 7 ∷ 2 ∷ 4088 ∷ []; output = short; answer = 22 ∷ []; after = short }
     -- 22
     ∷ record { held = cartonBytes; rows = cartonRows; output = short; answer = 22 ∷ []; after = short }
     ∷ []
@@ -57,16 +75,24 @@ pub the-writer-leaves : map (λ (c : WriterCase). outputAfter edition2005 (c .he
 unfolding all-definitions
 the-writer-leaves = refl
 
--- rows 0 to 2 of the carton, a row that it hasn't, and a refused message
-abbrev pub stretches : List Stretch
-stretches =
-    record { start = 4; length = 2 }
-    ∷ record { start = 7; length = 3 }
-    ∷ record { start = 11; length = 2 }
-    ∷ record { start = 0; length = 0 }
-    ∷ record { start = 0; length = 0 }
+-- a message and a row number; the part
+pub record PartCase : Type 0 where
+  pub input : Bytes
+  pub row : ℕ
+  pub part : Stretch
+
+-- rows 0 to 2 of the carton, and a row that it hasn't; a refused message, one refused with 1, and one with 13
+abbrev pub partCases : List PartCase
+partCases =
+    record { input = cartonBytes; row = 0; part = record { start = 4; length = 2 } }
+    ∷ record { input = cartonBytes; row = 1; part = record { start = 7; length = 3 } }
+    ∷ record { input = cartonBytes; row = 2; part = record { start = 11; length = 2 } }
+    ∷ record { input = cartonBytes; row = 3; part = record { start = 0; length = 0 } }
+    ∷ record { input = noTrailer .input; row = 0; part = record { start = 0; length = 0 } }
+    ∷ record { input = longText 4089; row = 0; part = record { start = 0; length = 0 } }
+    ∷ record { input = manyElements 1024 (ascii "\u{4}"); row = 0; part = record { start = 0; length = 0 } }
     ∷ []
 
-pub the-parts : partOf edition2005 cartonBytes 0 ∷ partOf edition2005 cartonBytes 1 ∷ partOf edition2005 cartonBytes 2 ∷ partOf edition2005 cartonBytes 3 ∷ partOf edition2005 (noTrailer .input) 0 ∷ [] ≡ stretches
+pub the-parts : map (λ (c : PartCase). partOf edition2005 (c .input) (c .row)) partCases ≡ map (λ (c : PartCase). c .part) partCases
 unfolding all-definitions
 the-parts = refl
