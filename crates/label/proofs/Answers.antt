@@ -1,10 +1,11 @@
 -- From what reading answers to what a caller is answered: numbers, values and the table.
 use Prim.Native.Nat.{ℕ, _*_, _≤_, _<_}
-use mathlib.Core.Path.{_≡_, refl, sym, ap, _∙_}
+use mathlib.Core.Path.{_≡_, refl, sym, ap, _∙_, subst}
 use mathlib.Core.Bool.{Bool, true, false, cond}
+use mathlib.Core.Logic.{_⊎_, inl, inr}
 use mathlib.Core.List.{List, [], _∷_}
 use native.Mathlib.Omega.{arith}
-use borrow.Author.Tests.{le-ltb, lt-ltb}
+use borrow.Author.Tests.{le-ltb, lt-ltb, ltb-true, ltb-false}
 use lib.ListN.{length}
 use lib.Dec.{ltb}
 use Rattle.label.specs.declared.Reason.{Reason}
@@ -14,27 +15,26 @@ use Rattle.label.specs.Limits.{rowWidth}
 use Rattle.label.specs.Formats.{Edition}
 use Rattle.label.specs.Layout.{Row, allNumbers}
 use Rattle.label.specs.Envelope.{Envelope}
-use Rattle.label.specs.Message.{rowsOf, Good}
+use Rattle.label.specs.Message.{rowsOf}
 use Rattle.label.specs.ReadMessage.{Outcome, read, refused, reading}
 use Rattle.label.specs.Answer.{accepted, refusal, roomOf, answered, readAnswer, overlaid, filled, tableAfter}
+use Rattle.label.specs.Place.{PlaceFor}
+use Rattle.label.specs.Promised.{NoneGood, IsRefused, RefusedForAnyRoom, AcceptedAs, RefusedSo, Alike}
+use Rattle.label.proofs.Numbers.{reasons-by-number}
 use Rattle.label.proofs.ReadingSound.{ReadingSo, reading-so}
-use Rattle.label.proofs.Places.{place-for, place-inside}
+use Rattle.label.proofs.ReadingComplete.{reading-pass}
+use Rattle.label.proofs.Places.{place-inside}
+use Rattle.label.proofs.PlaceOnce.{place-answered}
 
--- a refusal, with its reason and place
-pub record IsRefused (edition : Edition) (m : Bytes) : Type 0 where
-  pub reason : Reason
-  pub place : ℕ
-  pub says : reading edition m ≡ refused reason place
-
-pub refused-or-good : (edition : Edition) (m : Bytes) → ((es : List Envelope) → Good edition m es → ⊥) → IsRefused edition m
+pub refused-or-good : (edition : Edition) (m : Bytes) → NoneGood edition m → IsRefused edition m
 refused-or-good edition m none-good = by (reading edition m) refl (reading-so edition m)
   where
     by : (o : Outcome) → reading edition m ≡ o → ReadingSo edition m o → IsRefused edition m
     by (read es) says good = absurd (none-good es good)
     by (refused r p) says so = record { reason = r; place = p; says = says }
 
-pub read-once : (es es′ : List Envelope) → read es ≡ read es′ → es ≡ es′
-read-once es es′ same = cc
+pub same-list : (es es′ : List Envelope) → read es ≡ read es′ → es ≡ es′
+same-list es es′ same = cc
 
 -- a row is so many numbers
 pub numbers-wide : (rs : List Row) → length (allNumbers rs) ≡ rowWidth * length rs
@@ -58,10 +58,6 @@ module _ (edition : Edition) (m : Bytes) (es : List Envelope) where
       ap (filled table) says ∙ ap (λ t. cond t table (overlaid (allNumbers (rowsOf es)) table)) (le-ltb (roomOf table) (length (rowsOf es)) enough)
 
 -- two messages whose lists have the same number of envelopes and the same rows are answered alike
-pub record Alike (edition : Edition) (m m′ : Bytes) : Type 0 where
-  pub answers : (room : ℕ) → readAnswer edition m′ room ≡ readAnswer edition m room
-  pub tables : (table : List ℕ) → tableAfter edition m′ table ≡ tableAfter edition m table
-
 pub alike : (edition : Edition) (m m′ : Bytes) (es es′ : List Envelope) → reading edition m ≡ read es → reading edition m′ ≡ read es′ → length es′ ≡ length es → rowsOf es′ ≡ rowsOf es → Alike edition m m′
 unfolding readAnswer tableAfter
 alike edition m m′ es es′ says says′ envelopes rows = record {
@@ -69,18 +65,68 @@ alike edition m m′ es es′ says says′ envelopes rows = record {
   tables = λ table. ap (filled table) says′ ∙ (λ i. cond (ltb (roomOf table) (length (rows i))) table (overlaid (allNumbers (rows i)) table)) ∙ sym (ap (filled table) says);
 }
 
--- the place of an answer lies in the message
-answer-inside-by : (edition : Edition) (m : Bytes) (o : Outcome) → ReadingSo edition m o → (room : ℕ) (r : Reason) (p : ℕ) → answered room o ≡ refusal r p → p ≤ length m
-answer-inside-by edition m (read es) so room r p says = by (ltb room (length (rowsOf es))) says
-  where
-    by : (t : Bool) → cond t (refusal NoRoom 0) (accepted (length es) (length (rowsOf es))) ≡ refusal r p → p ≤ length m
-    by true says = let is : 0 ≡ p = cc in omega arith
-    by false says = let z : _≡_ {A = ℕ} 0 1 = cc in absurd (omega arith)
-answer-inside-by edition m (refused r′ p′) so room r p says =
-    let place : p′ ≡ p = cc in
-    let inside = place-inside edition m r′ p′ (place-for edition m r′ p′ so) in
-    omega arith
+-- What the answer's numbers tell, for a table's room
 
-pub answer-inside : (edition : Edition) (m : Bytes) (r : Reason) (p room : ℕ) → readAnswer edition m room ≡ refusal r p → p ≤ length m
+-- a reading that is refused is so for any room
+refused-for-any-room : (edition : Edition) (m : Bytes) (r : Reason) (p : ℕ) → reading edition m ≡ refused r p → (room : ℕ) → readAnswer edition m room ≡ refusal r p
 unfolding readAnswer
-answer-inside edition m r p room says = answer-inside-by edition m (reading edition m) (reading-so edition m) room r p says
+refused-for-any-room edition m r p says room = ap (answered room) says
+
+pub refused-whatever-room : (edition : Edition) (m : Bytes) → NoneGood edition m → RefusedForAnyRoom edition m
+refused-whatever-room edition m none-good =
+    let is = refused-or-good edition m none-good in
+    record {
+      reason = is .reason;
+      place = is .place;
+      so = subst (λ (o : Outcome). ReadingSo edition m o) (is .says) (reading-so edition m);
+      says = refused-for-any-room edition m (is .reason) (is .place) (is .says);
+    }
+
+module _ (edition : Edition) (m : Bytes) (room : ℕ) where
+  accepted-by : (o : Outcome) → ReadingSo edition m o → (envelopes rows : ℕ) → answered room o ≡ accepted envelopes rows → AcceptedAs edition m room envelopes rows
+  accepted-by (read es) good envelopes rows says = by (ltb room (length (rowsOf es))) refl says
+    where
+      by : (t : Bool) → ltb room (length (rowsOf es)) ≡ t → cond t (refusal NoRoom 0) (accepted (length es) (length (rowsOf es))) ≡ accepted envelopes rows → AcceptedAs edition m room envelopes rows
+      by true short says = let z : _≡_ {A = ℕ} 0 1 = cc in absurd (omega arith)
+      by false enough says =
+          let itsRows : rows ≡ length (rowsOf es) = cc in
+          record { list = es; good = good; itsEnvelopes = cc; itsRows = itsRows; fits = omega (arith, ltb-false room (length (rowsOf es)) enough) }
+  accepted-by (refused r p) so envelopes rows says = let z : _≡_ {A = ℕ} 0 1 = cc in absurd (omega arith)
+
+  pub accepted-as : (envelopes rows : ℕ) → readAnswer edition m room ≡ accepted envelopes rows → AcceptedAs edition m room envelopes rows
+  unfolding readAnswer
+  accepted-as envelopes rows says = accepted-by (reading edition m) (reading-so edition m) envelopes rows says
+
+  pub as-accepted : (envelopes rows : ℕ) → AcceptedAs edition m room envelopes rows → readAnswer edition m room ≡ accepted envelopes rows
+  as-accepted envelopes rows so =
+      answered-with-room edition m (so .list) room (reading-pass edition m (so .list) (so .good)) (omega (arith, so .fits, so .itsRows))
+      ∙ (λ i. accepted (sym (so .itsEnvelopes) i) (sym (so .itsRows) i))
+
+  same-reason : (r r′ : Reason) (p p′ : ℕ) → refusal r′ p′ ≡ refusal r p → r ≡ r′
+  same-reason r r′ p p′ says = reasons-by-number r r′ (cc)
+
+  refused-by : (o : Outcome) → ReadingSo edition m o → (r : Reason) (p : ℕ) → answered room o ≡ refusal r p → RefusedSo edition m room r p
+  refused-by (read es) good r p says = by (ltb room (length (rowsOf es))) refl says
+    where
+      by : (t : Bool) → ltb room (length (rowsOf es)) ≡ t → cond t (refusal NoRoom 0) (accepted (length es) (length (rowsOf es))) ≡ refusal r p → RefusedSo edition m room r p
+      by true short says = inr (same-reason r NoRoom p 0 says, cc, record { list = es; good = good; tooFew = ltb-true room (length (rowsOf es)) short })
+      by false enough says = let z : _≡_ {A = ℕ} 0 1 = cc in absurd (omega arith)
+  refused-by (refused r′ p′) so r p says =
+      let place : p′ ≡ p = cc in
+      inl (subst (λ (x : ℕ). PlaceFor edition m r x) place (subst (λ (x : Reason). PlaceFor edition m x p′) (sym (same-reason r r′ p p′ says)) so))
+
+  pub refused-so : (r : Reason) (p : ℕ) → readAnswer edition m room ≡ refusal r p → RefusedSo edition m room r p
+  unfolding readAnswer
+  refused-so r p says = refused-by (reading edition m) (reading-so edition m) r p says
+
+  pub so-refused : (r : Reason) (p : ℕ) → RefusedSo edition m room r p → readAnswer edition m room ≡ refusal r p
+  so-refused r p (inl so) = refused-for-any-room edition m r p (place-answered edition m r p so) room
+  so-refused r p (inr (why, place, lacks)) =
+      answered-without edition m (lacks .list) room (reading-pass edition m (lacks .list) (lacks .good)) (lacks .tooFew) ∙ (λ i. refusal (sym why i) (sym place i))
+
+  pub answer-inside : (r : Reason) (p : ℕ) → readAnswer edition m room ≡ refusal r p → p ≤ length m
+  answer-inside r p says = by (refused-so r p says)
+    where
+      by : RefusedSo edition m room r p → p ≤ length m
+      by (inl so) = place-inside edition m r p so
+      by (inr (why, place, lacks)) = omega arith

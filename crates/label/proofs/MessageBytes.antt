@@ -1,6 +1,6 @@
 -- A message's bytes: its header, then each envelope and its RS, then EOT; or its header and the one envelope that takes all the rest.
 use Prim.Native.Nat.{_<_}
-use mathlib.Core.Path.{_≡_, refl, ap, _∙_}
+use mathlib.Core.Path.{_≡_, refl, sym, ap, _∙_}
 use mathlib.Core.Bool.{true, false, cond}
 use mathlib.Core.List.{List, [], _∷_, _++_, map, append-assoc, append-nil}
 use native.Mathlib.Omega.{arith}
@@ -10,6 +10,7 @@ use Rattle.label.specs.Layout.{Part, mark, marks, bytesOf, separated, en
 use Rattle.label.specs.Envelope.{Envelope}
 use Rattle.label.specs.Written.{parts}
 use Rattle.label.specs.Message.{header, isRest, isRestAlone, messageParts, message}
+use Rattle.label.specs.Place.{inFront}
 use Rattle.label.proofs.Laid.{bytes-append}
 
 -- envelopes, each with its RS, in front of other bytes
@@ -23,6 +24,18 @@ ended-bytes (e ∷ es) ps =
     ap bytesOf (append-assoc (parts e) (mark RS ∷ ended RS (map parts es)) ps)
     ∙ bytes-append (parts e) (mark RS ∷ (ended RS (map parts es) ++ ps))
     ∙ ap (λ r. bytesOf (parts e) ++ (RS ∷ r)) (ended-bytes es ps)
+
+closed-append : (es : List Envelope) (rest : Bytes) → closedBytes es rest ≡ closedBytes es [] ++ rest
+closed-append [] rest = refl
+closed-append (e ∷ es) rest =
+    ap (λ r. bytesOf (parts e) ++ (RS ∷ r)) (closed-append es rest) ∙ sym (append-assoc (bytesOf (parts e)) (RS ∷ closedBytes es []) rest)
+
+-- what stands in front of a place, and the rest
+pub front-bytes : (before : List Envelope) (rest : Bytes) → inFront before ++ rest ≡ header ++ closedBytes before rest
+front-bytes before rest =
+    ap (λ r. header ++ (bytesOf r ++ rest)) (sym (append-nil (ended RS (map parts before))))
+    ∙ ap (λ r. header ++ (r ++ rest)) (ended-bytes before [])
+    ∙ ap (λ r. header ++ r) (sym (closed-append before rest))
 
 pub message-closed : (es : List Envelope) → isRestAlone es ≡ false → message es ≡ header ++ closedBytes es (EOT ∷ [])
 unfolding message messageParts

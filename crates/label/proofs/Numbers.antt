@@ -13,7 +13,7 @@ use Rattle.label.specs.declared.WriteReason.the-variants.{BadRows, NoSuc
 use Rattle.label.specs.declared.Writing.{Writing}
 use Rattle.label.specs.declared.Writing.the-variants.{Written, Declined}
 use Rattle.label.specs.Answer.{number, answerOf}
-use Rattle.label.specs.Writing.{writeAnswerOf}
+use Rattle.label.specs.Writing.{writeNumber, writeAnswerOf}
 
 abbrev reasons : List Reason
 reasons =
@@ -40,6 +40,9 @@ numbered-back BodyBreaksRules = refl
 numbered-back NoRecordSeparator = refl
 numbered-back TooManyRows = refl
 numbered-back NoRoom = refl
+
+pub reasons-by-number : (r r′ : Reason) → number r ≡ number r′ → r ≡ r′
+reasons-by-number r r′ same = sym (numbered-back r) ∙ ap numbered same ∙ numbered-back r′
 
 -- two numbers are a refusal, three an acceptance
 abbrev answered-back : List ℕ → Reading
@@ -72,3 +75,6 @@ wrote-back-from (Declined NoOutputRoom) = refl
 
 pub writings-by-answer : (a b : Writing) → writeAnswerOf a ≡ writeAnswerOf b → a ≡ b
 writings-by-answer a b same = sym (wrote-back-from a) ∙ ap written-back same ∙ wrote-back-from b
+
+pub write-reasons-by-number : (r r′ : WriteReason) → writeNumber r ≡ writeNumber r′ → r ≡ r′
+write-reasons-by-number r r′ same = let one = writings-by-answer (Declined r) (Declined r′) (ap (λ n. n ∷ []) same) in cc

@@ -12,6 +12,7 @@ use Rattle.label.specs.Layout.{Part, mark, item, marks, Row, bytesOf, ro
 use Rattle.label.specs.Envelope.{Envelope, counted, Within}
 use Rattle.label.specs.Written.{rowed, indicator, valueRow, bodyRow, parts}
 use Rattle.label.specs.Message.{header, isTransport, isRest, isRestAlone, transportOnlyFirst, messageParts, message, rowsOf, Each, Good}
+use Rattle.label.specs.Promised.{with-payload, Freed}
 use Rattle.label.proofs.Laid.{bytes-append}
 
 -- the rows of parts behind others begin where those end
@@ -25,9 +26,6 @@ rows-append at (item i ∷ ps) qs =
 
 -- the parts before and behind a payload
 module _ (before after : List Envelope) (f : ℕ) (t c n : Bytes) where
-  abbrev pub with-payload : Bytes → List Envelope
-  with-payload payload = before ++ (counted f t c n payload ∷ after)
-
   abbrev pub front : List Part
   front = marks header ++ (ended RS (map parts before) ++ (indicator f ∷ mark GS ∷ rowed valueRow f t ∷ mark GS ∷ rowed valueRow f c ∷ mark GS ∷ rowed valueRow f n ∷ mark GS ∷ []))
 
@@ -118,19 +116,7 @@ module _ (before after : List Envelope) (f : ℕ) (t c n : Bytes) where
           writesOut = refl;
         }
 
-    -- the new message is the old one with the payload's bytes replaced, is good, and has the same rows
-    pub record Freed (edition : Edition) (m : Bytes) : Type 0 where
-      pub around : Bytes
-      pub behind : Bytes
-      pub stood : m ≡ around ++ (payload ++ behind)
-      pub good : Good edition (around ++ (payload′ ++ behind)) (with-payload before after f t c n payload′)
-      pub envelopes : length (with-payload before after f t c n payload′) ≡ length (with-payload before after f t c n payload)
-      pub rows : rowsOf (with-payload before after f t c n payload′) ≡ rowsOf (with-payload before after f t c n payload)
-
-    abbrev pub new-message : (edition : Edition) (m : Bytes) → Freed edition m → Bytes
-    new-message edition m new = new .around ++ (payload′ ++ new .behind)
-
-    pub freed : (edition : Edition) (m : Bytes) → Good edition m (with-payload before after f t c n payload) → Freed edition m
+    pub freed : (edition : Edition) (m : Bytes) → Good edition m (with-payload before after f t c n payload) → Freed before after f t c n payload payload′ edition m
     freed edition m good = record {
       around = bytesOf (front before after f t c n);
       behind = bytesOf (back before after f t c n);

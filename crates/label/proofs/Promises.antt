@@ -1,29 +1,59 @@
 -- The promises about reading, each with its name and sentence; the work is done where the proof says. They hold for every edition and every list of
--- bytes. What a reader must believe for them is Good (specs/Message), reading (specs/ReadMessage), readAnswer and tableAfter (specs/Answer).
+-- bytes. What a reader must believe for them is Good (specs/Message), reading (specs/ReadMessage), readAnswer and tableAfter (specs/Answer), PlaceFor
+-- (specs/Place), partOf (specs/Part), and the names in specs/Promised.
 use Prim.Native.Nat.{ℕ, _≤_, _<_}
 use mathlib.Core.Path.{_≡_, sym, _∙_, subst}
+use mathlib.Core.Logic.{_↔_}
 use mathlib.Core.List.{List, _∷_, _++_}
 use lib.ListN.{length}
 use Rattle.label.specs.declared.Reason.{Reason}
 use Rattle.label.specs.declared.Reason.the-variants.{NoRoom}
 use Rattle.label.specs.Bytes.{Bytes}
 use Rattle.label.specs.Formats.{Edition}
-use Rattle.label.specs.Layout.{allNumbers}
+use Rattle.label.specs.Layout.{allNumbers, itemsOf}
 use Rattle.label.specs.Envelope.{Envelope, counted}
-use Rattle.label.specs.Message.{rowsOf, Good}
+use Rattle.label.specs.Message.{messageParts, rowsOf, Good}
 use Rattle.label.specs.ReadMessage.{Outcome, read, refused, reading}
 use Rattle.label.specs.Answer.{accepted, refusal, roomOf, readAnswer, overlaid, tableAfter}
+use Rattle.label.specs.Part.{emptyStart, stretchAt, partOf}
+use Rattle.label.specs.Place.{PlaceFor}
+use Rattle.label.specs.Promised.{NoneGood, IsRefused, RefusedForAnyRoom, AcceptedAs, RefusedSo, Alike, InOrder, Freed, new-message, bytesAt, contentAt}
 use Rattle.label.proofs.ReadingSound.{ReadingSo, reading-so}
 use Rattle.label.proofs.ReadingComplete.{reading-pass}
-use Rattle.label.proofs.Places.{PlaceFor, place-for}
-use Rattle.label.proofs.PayloadFree.{Freed, freed, new-message}
-use Rattle.label.proofs.Answers.{IsRefused, refused-or-good, read-once, answered-with-room, answered-without, filled-with-room, answer-inside, Alike, alike}
+use Rattle.label.proofs.PlaceOnce.{one-place, none-if-good}
+use Rattle.label.proofs.PayloadFree.{freed}
+use Rattle.label.proofs.Answers.{refused-or-good, same-list, answered-with-room, answered-without, filled-with-room, refused-whatever-room, accepted-as, as-accepted, refused-so, so-refused, answer-inside, alike}
 use Rattle.label.proofs.Untouched.{refusal-leaves-table}
+use Rattle.label.proofs.Parts.{rows-own, own-content, none-behind, none-of-refused, in-order}
 
 module _ (edition : Edition) (m : Bytes) where
+  -- Demand 1: a refusal has its place, the one that the paper's column says
+  pub place-as-stated : (r : Reason) (p : ℕ) → reading edition m ≡ refused r p → PlaceFor edition m r p
+  place-as-stated r p says = subst (λ (o : Outcome). ReadingSo edition m o) says (reading-so edition m)
+
+  -- no other reason and place are so for the message
+  pub place-once : (r r′ : Reason) (p p′ : ℕ) → PlaceFor edition m r p → PlaceFor edition m r′ p′ → (r ≡ r′) × (p ≡ p′)
+  place-once r r′ p p′ so so′ = one-place edition m r r′ p p′ so so′
+
+  -- and none is so for a good one
+  pub no-place-if-good : (r : Reason) (p : ℕ) (es : List Envelope) → Good edition m es → PlaceFor edition m r p → ⊥
+  no-place-if-good r p es good so = none-if-good edition m r p es good so
+
+  -- it is at most the message's length, that of 14 too
+  pub place-within : (r : Reason) (p room : ℕ) → readAnswer edition m room ≡ refusal r p → p ≤ length m
+  place-within r p room says = answer-inside edition m room r p says
+
+  -- Demand 1: a refusal leaves the table as it was
+  pub untouched : (table : List ℕ) (r : Reason) (p : ℕ) → readAnswer edition m (roomOf table) ≡ refusal r p → tableAfter edition m table ≡ table
+  untouched table r p says = refusal-leaves-table edition m table r p says
+
   -- Demand 3: not good is always refused
-  pub refused-unless-good : ((es : List Envelope) → Good edition m es → ⊥) → IsRefused edition m
+  pub refused-unless-good : NoneGood edition m → IsRefused edition m
   refused-unless-good none-good = refused-or-good edition m none-good
+
+  -- for every room, with a reason and a place that are so
+  pub refused-for-every-room : NoneGood edition m → RefusedForAnyRoom edition m
+  refused-for-every-room none-good = refused-whatever-room edition m none-good
 
   -- the same the other way round: what is accepted is good, with the list that is answered
   pub accepted-is-good : (es : List Envelope) → reading edition m ≡ read es → Good edition m es
@@ -43,7 +73,7 @@ module _ (edition : Edition) (m : Bytes) where
 
   -- Demand 3: exactly one list
   pub one-list : (es es′ : List Envelope) → Good edition m es → Good edition m es′ → es ≡ es′
-  one-list es es′ good good′ = read-once es es′ (sym (reading-pass edition m es good) ∙ reading-pass edition m es′ good′)
+  one-list es es′ good good′ = same-list es es′ (sym (reading-pass edition m es good) ∙ reading-pass edition m es′ good′)
 
   -- Demand 3: the table's first numbers are exactly that list's rows, and the rest stays as it was
   pub first-rows : (es : List Envelope) → Good edition m es → (table : List ℕ) → length (rowsOf es) ≤ roomOf table → tableAfter edition m table ≡ overlaid (allNumbers (rowsOf es)) table
@@ -51,23 +81,42 @@ module _ (edition : Edition) (m : Bytes) where
 
   -- Demand 3: another payload of equal length in format 09 gives a good message and changes no row, whichever envelope it is in
   pub payload-is-free : (before after : List Envelope) (f : ℕ) (t c n payload payload′ : Bytes) (same : length payload′ ≡ length payload)
-      → Good edition m (before ++ (counted f t c n payload ∷ after)) → Freed before after f t c n payload payload′ same edition m
+      → Good edition m (before ++ (counted f t c n payload ∷ after)) → Freed before after f t c n payload payload′ edition m
   payload-is-free before after f t c n payload payload′ same good = freed before after f t c n payload payload′ same edition m good
 
   -- nor the answer, nor any number of any table
-  pub payload-changes-nothing : (before after : List Envelope) (f : ℕ) (t c n payload payload′ : Bytes) (same : length payload′ ≡ length payload)
-      (good : Good edition m (before ++ (counted f t c n payload ∷ after))) → Alike edition m (new-message before after f t c n payload payload′ same edition m (freed before after f t c n payload payload′ same edition m good))
-  payload-changes-nothing before after f t c n payload payload′ same good =
-      let new = freed before after f t c n payload payload′ same edition m good in
+  pub payload-changes-nothing : (before after : List Envelope) (f : ℕ) (t c n payload payload′ : Bytes) → Good edition m (before ++ (counted f t c n payload ∷ after))
+      → (new : Freed before after f t c n payload payload′ edition m) → Alike edition m (new-message before after f t c n payload payload′ edition m new)
+  payload-changes-nothing before after f t c n payload payload′ good new =
       alike edition m _ _ _ (reading-pass edition m _ good) (reading-pass edition _ _ (new .good)) (new .envelopes) (new .rows)
 
-  -- Demand 1: a refusal has its place: what the paper's table says, at most the message's length
-  pub place-as-stated : (r : Reason) (p : ℕ) → reading edition m ≡ refused r p → PlaceFor edition m r p
-  place-as-stated r p says = place-for edition m r p (subst (λ (o : Outcome). ReadingSo edition m o) says (reading-so edition m))
+  -- The answer for every message and every room, both ways
 
-  pub place-within : (r : Reason) (p room : ℕ) → readAnswer edition m room ≡ refusal r p → p ≤ length m
-  place-within r p room says = answer-inside edition m r p room says
+  -- Demand 3: accepted exactly where a list is good and the table has room for its rows, with the list's own lengths
+  pub accepted-exactly : (room envelopes rows : ℕ) → (readAnswer edition m room ≡ accepted envelopes rows) ↔ AcceptedAs edition m room envelopes rows
+  accepted-exactly room envelopes rows = (accepted-as edition m room envelopes rows, as-accepted edition m room envelopes rows)
 
-  -- Demand 1: a refusal leaves the table as it was
-  pub untouched : (table : List ℕ) (r : Reason) (p : ℕ) → readAnswer edition m (roomOf table) ≡ refusal r p → tableAfter edition m table ≡ table
-  untouched table r p says = refusal-leaves-table edition m table r p says
+  -- refused exactly where a reason and a place are so, with these; or with 14 at 0 where a list is good and the table lacks room for its rows
+  pub refused-exactly : (room : ℕ) (r : Reason) (p : ℕ) → (readAnswer edition m room ≡ refusal r p) ↔ RefusedSo edition m room r p
+  refused-exactly room r p = (refused-so edition m room r p, so-refused edition m room r p)
+
+  -- Demand 2: the part that is handed back for a row number
+
+  -- of a good message it is the row's own stretch
+  pub part-is-the-rows-own : (es : List Envelope) → Good edition m es → (n : ℕ) → partOf edition m n ≡ stretchAt (rowsOf es) n
+  part-is-the-rows-own es good n = rows-own edition m es good n
+
+  -- whose bytes are the row's content
+  pub part-is-the-content : (es : List Envelope) → Good edition m es → (n : ℕ) → bytesAt m (partOf edition m n) ≡ contentAt (itemsOf (messageParts es)) n
+  part-is-the-content es good n = own-content edition m es good n
+
+  -- behind the last row, and of a message that isn't good, it is the empty part at the start
+  pub no-part-behind-the-last : (es : List Envelope) → Good edition m es → (n : ℕ) → length (rowsOf es) ≤ n → partOf edition m n ≡ emptyStart
+  no-part-behind-the-last es good n past = none-behind edition m es good n past
+
+  pub no-part-unless-good : NoneGood edition m → (n : ℕ) → partOf edition m n ≡ emptyStart
+  no-part-unless-good none-good n = none-of-refused edition m none-good n
+
+-- Demand 2: rows stand in message order
+pub rows-in-order : (es : List Envelope) → InOrder 0 (rowsOf es)
+rows-in-order es = in-order es

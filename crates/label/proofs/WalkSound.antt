@@ -1,5 +1,5 @@
 -- What a walk answers: a list of envelopes that are within their rules, in permitted places, and written out are the bytes walked over; or a refusal
--- at an envelope's start behind good envelopes, or at the message's end.
+-- at an envelope's start behind such envelopes, or at the message's end.
 use Prim.Native.Nat.{ℕ, zero, suc, _<_}
 use mathlib.Core.Path.{_≡_, refl, sym, ap, _∙_}
 use mathlib.Core.Bool.{Bool, true, false, not, _&&_, _||_, false≢true}
@@ -16,17 +16,14 @@ use Rattle.label.specs.Formats.{Edition}
 use Rattle.label.specs.Layout.{bytesOf}
 use Rattle.label.specs.Envelope.{Envelope, Within}
 use Rattle.label.specs.Written.{parts}
-use Rattle.label.specs.Message.{isTransport, isRest, Each}
+use Rattle.label.specs.Message.{isRest, Each}
+use Rattle.label.specs.Place.{goesOn}
 use Rattle.label.specs.ReadEnvelope.{Step, closed, whole, refuse, readEnvelope}
 use Rattle.label.specs.ReadMessage.{Outcome, read, refused, placeOf, andThen, afterTrailer, atBoundary, follow, walk}
 use Rattle.label.proofs.Tests.{and-both, not-false}
 use Rattle.label.proofs.EnvelopeSound.{OfEnvelope, StepSo, ClosedSo, step-so}
 use Rattle.label.proofs.MessageBytes.{closedBytes, left-shorter}
-
--- envelopes none of which takes all the rest, and 01 only where the first may stand
-abbrev pub placed : Bool → List Envelope → Bool
-placed first [] = true
-placed first (e ∷ es) = (first || not (isTransport e)) && not (isRest e) && placed false es
+use Rattle.label.proofs.Placed.{placed}
 
 -- one envelope that takes all the bytes
 pub record Alone (edition : Edition) (first : Bool) (bs : Bytes) (es : List Envelope) : Type 0 where
@@ -46,12 +43,11 @@ pub record AllClosed (edition : Edition) (first : Bool) (bs : Bytes) (es : List 
 
 -- the first may stand here, unless envelopes stand before
 abbrev pub firstAfter : Bool → List Envelope → Bool
-firstAfter first [] = first
-firstAfter first (e ∷ es) = false
+firstAfter first before = first && isEmpty before
 
 -- where a walk stops behind envelopes: at an envelope that is refused, at the end of the message, or behind its EOT
 pub data StopsAt (edition : Edition) (m : Bytes) (first : Bool) (before : List Envelope) (rest : Bytes) (r : Reason) (p : ℕ) : Type 0 where
-  inEnvelope : OfEnvelope r → readEnvelope edition (firstAfter first before) rest ≡ refuse r → p ≡ placeOf m rest → StopsAt edition m first before rest r p
+  inEnvelope : OfEnvelope r → (isEmpty before || goesOn rest) ≡ true → readEnvelope edition (firstAfter first before) rest ≡ refuse r → p ≡ placeOf m rest → StopsAt edition m first before rest r p
   atEnd : isEmpty before ≡ false → rest ≡ [] → r ≡ NoTrailer → p ≡ length m → StopsAt edition m first before rest r p
   behindEnd : (more : Bytes) → isEmpty before ≡ false → rest ≡ EOT ∷ more → isEmpty more ≡ false → r ≡ BytesAfterTrailer → p ≡ placeOf m more → StopsAt edition m first before rest r p
 
@@ -59,6 +55,7 @@ pub record Stopped (edition : Edition) (m : Bytes) (first : Bool) (bs : Bytes) (
   pub before : List Envelope
   pub rest : Bytes
   pub within : Each (Within edition) before
+  pub inPlace : placed first before ≡ true
   pub bytes : bs ≡ closedBytes before rest
   pub stops : StopsAt edition m first before rest r p
 
@@ -67,30 +64,40 @@ WalkSo edition m first bs (read es) = Alone edition first bs es ⊎ AllClosed ed
 WalkSo edition m first bs (refused r p) = Stopped edition m first bs r p
 
 module _ (edition : Edition) (m : Bytes) where
-  -- an envelope in front of what a walk over the rest answers
-  stops-later : (first : Bool) (e : Envelope) (before : List Envelope) (rest : Bytes) (r : Reason) (p : ℕ) → StopsAt edition m false before rest r p → StopsAt edition m first (e ∷ before) rest r p
-  stops-later first e before rest r p (inEnvelope why is place) = inEnvelope why (ap (λ x. readEnvelope edition x rest) (sym (later before)) ∙ is) place
+  -- an envelope in front of what a walk over the rest, which goes on, answers
+  stops-later : (first : Bool) (e : Envelope) (left : Bytes) (before : List Envelope) (rest : Bytes) (r : Reason) (p : ℕ) → goesOn left ≡ true → left ≡ closedBytes before rest
+      → StopsAt edition m false before rest r p → StopsAt edition m first (e ∷ before) rest r p
+  stops-later first e left before rest r p on bytes (inEnvelope why due is place) = inEnvelope why (later-due before bytes due) (ap (λ x. readEnvelope edition x rest) (not-first first) ∙ is) place
     where
-      later : (before : List Envelope) → firstAfter false before ≡ false
-      later [] = refl
-      later (e ∷ es) = refl
-  stops-later first e before rest r p (atEnd some none-left why place) = atEnd refl none-left why place
-  stops-later first e before rest r p (behindEnd more some is more-left why place) = behindEnd more refl is more-left why place
+      not-first : (first : Bool) → (first && false) ≡ false
+      not-first true = refl
+      not-first false = refl
 
-  in-front : (first : Bool) (bs : Bytes) (e : Envelope) (left : Bytes) → ClosedSo edition first bs e left → (o : Outcome) → WalkSo edition m false left o → WalkSo edition m first bs (andThen e o)
-  in-front first bs e left so (read es) (inl alone) = absurd (false≢true (alone .isFirst))
-  in-front first bs e left so (read es) (inr all) = inr record {
+      later-due : (before : List Envelope) → left ≡ closedBytes before rest → (isEmpty before || goesOn rest) ≡ true → goesOn rest ≡ true
+      later-due [] bytes due = sym (ap goesOn bytes) ∙ on
+      later-due (e ∷ es) bytes due = due
+  stops-later first e left before rest r p on bytes (atEnd some none-left why place) = atEnd refl none-left why place
+  stops-later first e left before rest r p on bytes (behindEnd more some is more-left why place) = behindEnd more refl is more-left why place
+
+  -- it stands where it may
+  in-place : (first : Bool) (bs : Bytes) (e : Envelope) (left : Bytes) (es : List Envelope) → ClosedSo edition first bs e left → placed false es ≡ true → placed first (e ∷ es) ≡ true
+  in-place first bs e left es so later = and-both (and-both (so .inPlace) (not-false (so .notRest))) later
+
+  in-front : (first : Bool) (bs : Bytes) (e : Envelope) (left : Bytes) → ClosedSo edition first bs e left → goesOn left ≡ true → (o : Outcome) → WalkSo edition m false left o → WalkSo edition m first bs (andThen e o)
+  in-front first bs e left so on (read es) (inl alone) = absurd (false≢true (alone .isFirst))
+  in-front first bs e left so on (read es) (inr all) = inr record {
     oneOrMore = refl;
     within = (so .within, all .within);
-    inPlace = and-both (and-both (so .inPlace) (not-false (so .notRest))) (all .inPlace);
+    inPlace = in-place first bs e left es so (all .inPlace);
     bytes = so .bytes ∙ ap (λ r. bytesOf (parts e) ++ (RS ∷ r)) (all .bytes);
   }
-  in-front first bs e left so (refused r p) stopped = record {
+  in-front first bs e left so on (refused r p) stopped = record {
     before = e ∷ stopped .before;
     rest = stopped .rest;
     within = (so .within, stopped .within);
+    inPlace = in-place first bs e left (stopped .before) so (stopped .inPlace);
     bytes = so .bytes ∙ ap (λ r. bytesOf (parts e) ++ (RS ∷ r)) (stopped .bytes);
-    stops = stops-later first e (stopped .before) (stopped .rest) r p (stopped .stops);
+    stops = stops-later first e left (stopped .before) (stopped .rest) r p on (stopped .bytes) (stopped .stops);
   }
 
   -- one envelope, and then EOT
@@ -98,7 +105,7 @@ module _ (edition : Edition) (m : Bytes) where
   last-closed first bs e b is so = record {
     oneOrMore = refl;
     within = (so .within, tt);
-    inPlace = and-both (and-both (so .inPlace) (not-false (so .notRest))) refl;
+    inPlace = in-place first bs e (b ∷ []) [] so refl;
     bytes = so .bytes ∙ ap (λ x. bytesOf (parts e) ++ (RS ∷ (x ∷ []))) is;
   }
 
@@ -108,6 +115,7 @@ module _ (edition : Edition) (m : Bytes) where
     before = e ∷ [];
     rest = b ∷ (x ∷ xs);
     within = (so .within, tt);
+    inPlace = in-place first bs e (b ∷ (x ∷ xs)) [] so refl;
     bytes = so .bytes;
     stops = behindEnd (x ∷ xs) refl (ap (λ y. y ∷ (x ∷ xs)) is) refl refl refl;
   }
@@ -118,6 +126,7 @@ module _ (edition : Edition) (m : Bytes) where
     before = e ∷ [];
     rest = [];
     within = (so .within, tt);
+    inPlace = in-place first bs e [] [] so refl;
     bytes = so .bytes;
     stops = atEnd refl refl refl refl;
   }
@@ -125,14 +134,18 @@ module _ (edition : Edition) (m : Bytes) where
     where
       by : (t : Bool) → eqb b EOT ≡ t → WalkSo edition m first bs (andThen e (elim t [ true ↦ afterTrailer m more | false ↦ next (b ∷ more) ]))
       by true is = behind-trailer first bs e b more (eqb-true b EOT is) so
-      by false is = in-front first bs e (b ∷ more) so (next (b ∷ more)) later
+      by false is = in-front first bs e (b ∷ more) so (not-false is) (next (b ∷ more)) later
 
   follow-so : (next : Bytes → Outcome) (first : Bool) (bs : Bytes) (s : Step) → readEnvelope edition first bs ≡ s → StepSo edition first bs s
       → ((left : Bytes) → length left < length bs → WalkSo edition m false left (next left)) → WalkSo edition m first bs (follow m next bs s)
   follow-so next first bs (closed e left) is so later = boundary-so next first bs e left so (later left (left-shorter e bs left (so .bytes)))
   follow-so next first bs (whole e) is so later =
       inl record { one = e; only = refl; within = so .within; takesRest = so .takesRest; isFirst = so .isFirst; bytes = so .bytes }
-  follow-so next first bs (refuse r) is so later = record { before = []; rest = bs; within = tt; bytes = refl; stops = inEnvelope so is refl }
+  follow-so next first bs (refuse r) is so later = record { before = []; rest = bs; within = tt; inPlace = refl; bytes = refl; stops = inEnvelope so refl (ap (λ x. readEnvelope edition x bs) (may-be-first first) ∙ is) refl }
+    where
+      may-be-first : (first : Bool) → (first && true) ≡ first
+      may-be-first true = refl
+      may-be-first false = refl
 
   pub walk-so : (n : ℕ) (first : Bool) (bs : Bytes) → length bs < n → WalkSo edition m first bs (walk edition m n first bs)
   unfolding walk

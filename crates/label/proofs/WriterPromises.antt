@@ -5,6 +5,7 @@
 use Prim.Native.Nat.{ℕ, _*_, _≤_, _<_}
 use mathlib.Core.Path.{_≡_, sym, ap, _∙_}
 use mathlib.Core.Bool.{true, false}
+use mathlib.Core.Logic.{_↔_}
 use mathlib.Core.List.{List, [], _∷_}
 use lib.ListN.{length, take}
 use Rattle.label.specs.declared.WriteReason.{WriteReason}
@@ -17,8 +18,9 @@ use Rattle.label.specs.Envelope.{Envelope}
 use Rattle.label.specs.Message.{messageParts, rowsOf, Good}
 use Rattle.label.specs.Answer.{roomOf, overlaid, tableAfter}
 use Rattle.label.specs.Writing.{rowsStand, itemsIn, written, declined, writing, writeNumber, writeAnswer, outputAfter}
+use Rattle.label.specs.Promised.{MessageWith, LongerMessageWith, FittingMessageWith, NoMessageWith, ReadBack}
 use Rattle.label.proofs.RowItems.{rows-stand, numbers-items, table-numbers}
-use Rattle.label.proofs.Composing.{MessageWith, LongerMessageWith, one-rendered, bad-rows, writes, lacks-room, none-written, tells, ReadBack, reads-back, answer-numbers, output-bytes}
+use Rattle.label.proofs.Composing.{one-rendered, bad-rows, writes, lacks-room, none-written, tells, reads-back, answer-numbers, output-bytes, declined-so, written-so, so-written, read-from-output}
 use Rattle.label.proofs.Untouched.{refusal-leaves-output}
 
 module _ (edition : Edition) where
@@ -74,10 +76,10 @@ module _ (edition : Edition) where
 
     -- Demand 2: 21 exactly where the rows stand and there is no good message with these kinds, formats and contents in this order
     pub only-if-none : (room : ℕ) → writing edition held ns room ≡ declined NoSuchMessage
-        → (rowsStand held ns ≡ true) × ((m : Bytes) (es : List Envelope) → Good edition m es → itemsOf (messageParts es) ≡ itemsIn held ns → ⊥)
+        → (rowsStand held ns ≡ true) × NoMessageWith edition (itemsIn held ns)
     only-if-none room says = tells edition held ns room (declined NoSuchMessage) says
 
-    pub if-none : rowsStand held ns ≡ true → ((m : Bytes) (es : List Envelope) → Good edition m es → itemsOf (messageParts es) ≡ itemsIn held ns → ⊥)
+    pub if-none : rowsStand held ns ≡ true → NoMessageWith edition (itemsIn held ns)
         → (room : ℕ) → writing edition held ns room ≡ declined NoSuchMessage
     if-none stand none-good room = none-written edition held ns stand none-good room
 
@@ -96,6 +98,27 @@ module _ (edition : Edition) where
     pub if-fits : (m : Bytes) (es : List Envelope) → rowsStand held ns ≡ true → Good edition m es → itemsOf (messageParts es) ≡ itemsIn held ns
         → (room : ℕ) → length m ≤ room → writing edition held ns room ≡ written m
     if-fits m es stand good items room enough = writes edition held ns m stand (record { envelopes = es; good = good; items = items }) room enough
+
+    -- The same of the numbers that are answered, both ways
+
+    pub answers-20 : (room : ℕ) → (writeAnswer edition held ns room ≡ writeNumber BadRows ∷ []) ↔ (rowsStand held ns ≡ false)
+    answers-20 room = (declined-so edition held ns room BadRows, λ fall. answer-numbers edition held ns room (declined BadRows) (if-bad-rows fall room))
+
+    pub answers-21 : (room : ℕ) → (writeAnswer edition held ns room ≡ writeNumber NoSuchMessage ∷ []) ↔ ((rowsStand held ns ≡ true) × NoMessageWith edition (itemsIn held ns))
+    answers-21 room = (declined-so edition held ns room NoSuchMessage, λ so. answer-numbers edition held ns room (declined NoSuchMessage) (if-none (so .0) (so .1) room))
+
+    pub answers-22 : (room : ℕ) → (writeAnswer edition held ns room ≡ writeNumber NoOutputRoom ∷ []) ↔ ((rowsStand held ns ≡ true) × LongerMessageWith edition (itemsIn held ns) room)
+    answers-22 room = (
+      declined-so edition held ns room NoOutputRoom,
+      λ so. answer-numbers edition held ns room (declined NoOutputRoom) (lacks-room edition held ns (so .1 .message) (so .0) (so .1 .with) room (so .1 .longer)),
+    )
+
+    pub answers-written : (room count : ℕ) → (writeAnswer edition held ns room ≡ 0 ∷ count ∷ []) ↔ ((rowsStand held ns ≡ true) × FittingMessageWith edition (itemsIn held ns) room count)
+    answers-written room count = (written-so edition held ns room count, so-written edition held ns room count)
+
+    -- Demand 2: so many of the output's first bytes as are answered read back as the rows that were given
+    pub read-back-from-output : (output : Bytes) (count : ℕ) → writeAnswer edition held ns (length output) ≡ 0 ∷ count ∷ [] → ReadBack edition held ns (take count (outputAfter edition held ns output))
+    read-back-from-output output count says = read-from-output edition held ns output count says
 
     -- Demand 1: a refusal leaves the output as it was
     pub output-untouched : (output : Bytes) (reason : WriteReason) → writeAnswer edition held ns (length output) ≡ writeNumber reason ∷ []

@@ -14,5 +14,7 @@ pub mod ReadEnvelope
 pub mod ReadMessage
 pub mod Answer
 pub mod Part
+pub mod Place
 pub mod Rendered
 pub mod Writing
+pub mod Promised

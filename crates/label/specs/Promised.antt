@@ -1,0 +1,134 @@
+-- What the promises speak of, where a statement needs a name of its own (proofs/Promises, proofs/WriterPromises).
+use Prim.Native.Nat.{ℕ, zero, suc, _+_, _*_, _≤_, _<_}
+use mathlib.Core.Path.{_≡_}
+use mathlib.Core.Logic.{_⊎_}
+use mathlib.Core.List.{List, [], _∷_, _++_}
+use lib.ListN.{length, take, drop}
+use Rattle.label.specs.declared.Reason.{Reason}
+use Rattle.label.specs.declared.Reason.the-variants.{NoRoom}
+use Rattle.label.specs.Bytes.{Bytes}
+use Rattle.label.specs.Limits.{rowWidth}
+use Rattle.label.specs.Formats.{Edition}
+use Rattle.label.specs.Layout.{Item, Row, itemsOf}
+use Rattle.label.specs.Envelope.{Envelope, counted}
+use Rattle.label.specs.Message.{messageParts, rowsOf, Good}
+use Rattle.label.specs.ReadMessage.{refused, reading}
+use Rattle.label.specs.Answer.{refusal, roomOf, readAnswer, tableAfter}
+use Rattle.label.specs.Part.{Stretch}
+use Rattle.label.specs.Place.{PlaceFor}
+use Rattle.label.specs.Writing.{rowsIn, itemsIn}
+
+-- Demand 3, of every message
+
+module _ (edition : Edition) (m : Bytes) where
+  -- there is no list with which the message is good
+  abbrev pub NoneGood : Type 0
+  NoneGood = (es : List Envelope) → Good edition m es → ⊥
+
+  -- a refusal has its reason and its place
+  pub record IsRefused : Type 0 where
+    pub reason : Reason
+    pub place : ℕ
+    pub says : reading edition m ≡ refused reason place
+
+  -- it is answered with a reason and a place that are so for the message, whatever room the table has
+  pub record RefusedForAnyRoom : Type 0 where
+    pub reason : Reason
+    pub place : ℕ
+    pub so : PlaceFor edition m reason place
+    pub says : (room : ℕ) → readAnswer edition m room ≡ refusal reason place
+
+  -- a list is good, the counts are its own lengths, and its rows are at most the room
+  pub record AcceptedAs (room envelopes rows : ℕ) : Type 0 where
+    pub list : List Envelope
+    pub good : Good edition m list
+    pub itsEnvelopes : envelopes ≡ length list
+    pub itsRows : rows ≡ length (rowsOf list)
+    pub fits : rows ≤ room
+
+  -- a list is good, and its rows are more than the room
+  pub record LacksRoom (room : ℕ) : Type 0 where
+    pub list : List Envelope
+    pub good : Good edition m list
+    pub tooFew : room < length (rowsOf list)
+
+  -- a reason and a place that are so for the message; or 14 at 0, as the table lacks room
+  abbrev pub RefusedSo : ℕ → Reason → ℕ → Type 0
+  RefusedSo room r p = PlaceFor edition m r p ⊎ ((r ≡ NoRoom) × (p ≡ 0) × LacksRoom room)
+
+-- the same answer for every room, and the same numbers in every table
+pub record Alike (edition : Edition) (m m′ : Bytes) : Type 0 where
+  pub answers : (room : ℕ) → readAnswer edition m′ room ≡ readAnswer edition m room
+  pub tables : (table : List ℕ) → tableAfter edition m′ table ≡ tableAfter edition m table
+
+-- rows stand in message order from an offset on: none starts before the one in front of it ends (01, Rows)
+abbrev pub InOrder : ℕ → List Row → Type 0
+InOrder at [] = Unit {0}
+InOrder at (r ∷ rs) = (at ≤ r .start) × InOrder (r .start + r .length) rs
+
+-- Demand 3, of another payload in format 09
+
+module _ (before after : List Envelope) (f : ℕ) (t c n : Bytes) where
+  -- a list with a counted payload in it
+  abbrev pub with-payload : Bytes → List Envelope
+  with-payload payload = before ++ (counted f t c n payload ∷ after)
+
+  module _ (payload payload′ : Bytes) (edition : Edition) (m : Bytes) where
+    -- the message with the payload's bytes replaced is good, and has the same rows
+    pub record Freed : Type 0 where
+      pub around : Bytes
+      pub behind : Bytes
+      pub stood : m ≡ around ++ (payload ++ behind)
+      pub good : Good edition (around ++ (payload′ ++ behind)) (with-payload payload′)
+      pub envelopes : length (with-payload payload′) ≡ length (with-payload payload)
+      pub rows : rowsOf (with-payload payload′) ≡ rowsOf (with-payload payload)
+
+    abbrev pub new-message : Freed → Bytes
+    new-message new = new .around ++ (payload′ ++ new .behind)
+
+-- Demand 2, of parts
+
+-- the bytes of a stretch
+abbrev pub bytesAt : Bytes → Stretch → Bytes
+bytesAt m s = take (s .length) (drop (s .start) m)
+
+-- the content of item n, counted from 0; nothing where there is no such item
+abbrev pub contentAt : List Item → ℕ → Bytes
+contentAt [] n = []
+contentAt (i ∷ is) zero = i .content
+contentAt (i ∷ is) (suc n) = contentAt is n
+
+-- Demand 2, of the writer
+
+module _ (edition : Edition) (is : List Item) where
+  -- a good message with these items
+  pub record MessageWith (m : Bytes) : Type 0 where
+    pub envelopes : List Envelope
+    pub good : Good edition m envelopes
+    pub items : itemsOf (messageParts envelopes) ≡ is
+
+  -- one that is longer than the room
+  pub record LongerMessageWith (room : ℕ) : Type 0 where
+    pub message : Bytes
+    pub with : MessageWith message
+    pub longer : room < length message
+
+  -- one that the room is enough for, with its length
+  pub record FittingMessageWith (room count : ℕ) : Type 0 where
+    pub message : Bytes
+    pub with : MessageWith message
+    pub fits : length message ≤ room
+    pub itsLength : count ≡ length message
+
+  -- there is none
+  abbrev pub NoMessageWith : Type 0
+  NoMessageWith = (m : Bytes) (es : List Envelope) → Good edition m es → itemsOf (messageParts es) ≡ is → ⊥
+
+-- bytes are good with a list whose rows are as many as those given, and which, in any table with room, name the same items in the same order
+pub record ReadBack (edition : Edition) (held : Bytes) (ns : List ℕ) (w : Bytes) : Type 0 where
+  pub envelopes : List Envelope
+  pub good : Good edition w envelopes
+  pub items : itemsOf (messageParts envelopes) ≡ itemsIn held ns
+  pub counted : length (rowsOf envelopes) ≡ length (rowsIn ns)
+  pub table-same : (table : List ℕ) → length (rowsOf envelopes) ≤ roomOf table
+      → itemsIn w (take (rowWidth * length (rowsOf envelopes)) (tableAfter edition w table)) ≡ itemsIn held ns
