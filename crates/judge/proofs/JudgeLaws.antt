@@ -16,8 +16,8 @@ use Rattle.label.specs.Layout.{Part, mark, marks, itemsOf, separated, ended}
 use Rattle.label.specs.Envelope.{Envelope}
 use Rattle.label.specs.Written.{parts}
 use Rattle.label.specs.Message.{header, isRestAlone, messageParts, rowsOf}
-use Rattle.label.specs.ReadMessage.{Outcome, read, refused, walk, enough, agreement, withinRows, reading}
-use Rattle.label.proofs.Walk.{unboundedWalk, bound-is-enough}
+use Rattle.label.specs.ReadMessage.{Outcome, read, refused, walk, enough, agreement, withinRows, reading, unboundedWalk}
+use Rattle.label.proofs.Walk.{bound-is-enough}
 use Rattle.label.proofs.RowItems.{rows-items}
 use Rattle.judge.specs.Shown.{judgedAs, totalRows, tallied, limited}
 use Rattle.judge.proofs.BodyLaws.{cond-yes, cond-no}

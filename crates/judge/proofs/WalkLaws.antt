@@ -17,9 +17,9 @@ use Rattle.label.specs.Layout.{bytesOf}
 use Rattle.label.specs.Envelope.{Envelope}
 use Rattle.label.specs.Written.{parts}
 use Rattle.label.specs.ReadEnvelope.{Step, closed, whole, refuse, readEnvelope}
-use Rattle.label.specs.ReadMessage.{Outcome, read, refused, placeOf, andThen, afterTrailer, atBoundary, follow}
+use Rattle.label.specs.ReadMessage.{Outcome, read, refused, placeOf, andThen, afterTrailer, atBoundary, follow, unboundedWalk}
 use Rattle.label.proofs.EnvelopeSound.{StepSo, step-so}
-use Rattle.label.proofs.Walk.{unboundedWalk, one-step-then-walk}
+use Rattle.label.proofs.Walk.{one-step-then-walk}
 use Rattle.leaves.proofs.Turns.{drop-step, drop-past}
 use Rattle.judge.specs.declared.Found.the-variants.{Closed, Whole, Refused}
 use Rattle.judge.specs.declared.State.{State}

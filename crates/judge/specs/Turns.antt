@@ -4,12 +4,12 @@ use mathlib.Core.Path.{_≡_}
 use mathlib.Core.Bool.{false, cond}
 use lib.ListN.{length, getD, drop}
 use lib.Dec.{leb, eqb}
+use Rattle.label.specs.ReadMessage.{unboundedWalk}
 use Rattle.label.specs.declared.Reading.{Reading}
 use Rattle.label.specs.declared.Reading.the-variants.{Accepted, Refused}
 use Rattle.label.specs.declared.Reason.the-variants.{NoTrailer, BytesAfterTrailer}
 use Rattle.label.specs.Bytes.{Bytes, EOT}
 use Rattle.label.specs.Formats.{edition2005}
-use Rattle.label.proofs.Walk.{unboundedWalk}
 use Rattle.judge.specs.declared.State.{State}
 use Rattle.judge.specs.declared.Turn.{Turn}
 use Rattle.judge.specs.declared.Turn.the-variants.{Done, Go}

@@ -12,8 +12,8 @@ ghost use mathlib.Core.Path.{_≡_};
 ghost use mathlib.Core.Bool.{true};
 ghost use Prim.Native.Nat.{_≤_};
 ghost use lib.ListN.{length, drop};
+ghost use Rattle.label.specs.ReadMessage.{unboundedWalk};
 ghost use Rattle.label.specs.Formats.{edition2005};
-ghost use Rattle.label.proofs.Walk.{unboundedWalk};
 ghost use Rattle.judge.specs.Shown.{tallied};
 ghost use Rattle.judge.specs.Turns.{Sound, TurnSo, boundaryTurn};
 

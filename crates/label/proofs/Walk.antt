@@ -10,7 +10,7 @@ use lib.Dec.{eqb}
 use Rattle.label.specs.Bytes.{Bytes, EOT}
 use Rattle.label.specs.Formats.{Edition}
 use Rattle.label.specs.ReadEnvelope.{Step, closed, whole, refuse, readEnvelope}
-use Rattle.label.specs.ReadMessage.{Outcome, andThen, afterTrailer, atBoundary, follow, walk}
+use Rattle.label.specs.ReadMessage.{Outcome, andThen, afterTrailer, atBoundary, follow, walk, unboundedWalk}
 use Rattle.label.proofs.EnvelopeSound.{StepSo, step-so}
 use Rattle.label.proofs.MessageBytes.{left-shorter}
 
@@ -37,10 +37,7 @@ bound-is-enough edition m (suc n) (suc k) first bs hn hk =
     follow-agree edition m (walk edition m n false) (walk edition m k false) first bs (readEnvelope edition first bs) (step-so edition first bs)
     (λ left shorter. bound-is-enough edition m n k false left (omega arith) (omega arith))
 
--- the walk with no bound: one step, and then the walk
-unfoldable pub unboundedWalk : Edition → Bytes → Bool → Bytes → Outcome
-unboundedWalk edition m first bs = walk edition m (suc (length bs)) first bs
-
+-- with no bound it is one step, and then the walk
 pub one-step-then-walk : (edition : Edition) (m : Bytes) (first : Bool) (bs : Bytes) → unboundedWalk edition m first bs ≡ follow m (unboundedWalk edition m false) bs (readEnvelope edition first bs)
 unfolding unboundedWalk walk
 one-step-then-walk edition m first bs =

@@ -47,6 +47,10 @@ unfoldable pub walk : Edition → Bytes → ℕ → Bool → Bytes → Outcome
 walk edition m zero first bs = refused NoIndicator (placeOf m bs)
 walk edition m (suc n) first bs = follow m (walk edition m n false) bs (readEnvelope edition first bs)
 
+-- with one more than there are bytes to walk over, which never run out
+unfoldable pub unboundedWalk : Edition → Bytes → Bool → Bytes → Outcome
+unboundedWalk edition m first bs = walk edition m (suc (length bs)) first bs
+
 -- a message has fewer envelopes than bytes, so that this many never run out
 abbrev pub enough : Bytes → ℕ
 enough m = length m

@@ -12,8 +12,7 @@ use Rattle.label.specs.declared.Reading.the-variants.{Accepted}
 use Rattle.label.specs.Bytes.{Bytes, EOT}
 use Rattle.label.specs.Limits.{mostRows}
 use Rattle.label.specs.Formats.{edition2005}
-use Rattle.label.specs.ReadMessage.{reading}
-use Rattle.label.proofs.Walk.{unboundedWalk}
+use Rattle.label.specs.ReadMessage.{reading, unboundedWalk}
 use Rattle.judge.specs.declared.State.{State}
 use Rattle.judge.specs.declared.Turn.{Turn}
 use Rattle.judge.specs.declared.Turn.the-variants.{Go}

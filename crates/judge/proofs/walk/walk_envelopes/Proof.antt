@@ -4,8 +4,8 @@ use native.Mathlib.Omega.{arith}
 use Prim.Native.Nat.{_-_}
 use mathlib.Core.Bool.{true}
 use lib.ListN.{length, drop}
+use Rattle.label.specs.ReadMessage.{unboundedWalk}
 use Rattle.label.specs.Formats.{edition2005}
-use Rattle.label.proofs.Walk.{unboundedWalk}
 use Rattle.judge.specs.Shown.{tallied}
 use Rattle.judge.specs.Turns.{resultOf, Sound, TurnSo}
 use borrow.Author.Needs.{needs}
