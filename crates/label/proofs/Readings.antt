@@ -305,8 +305,8 @@ longText n = ascii "[)>\u{1e}07" ++ (replicate n 0x41 ++ ascii "\u{1e}\u{4}")
 abbrev tooManyAnd : Bytes → ℕ → ℕ → Case
 tooManyAnd after reason place = record { input = manyElements 1024 after; lines = (reason ∷ place ∷ []) ∷ [] }
 
-abbrev pub limits : List Case
-limits =
+abbrev pub limitCases : List Case
+limitCases =
     record { input = replicate 4097 0x41; lines = (1 ∷ 4096 ∷ []) ∷ [] }
     ∷ record { input = replicate 4096 0x41; lines = (2 ∷ 0 ∷ []) ∷ [] }
     ∷ tooManyAnd (ascii "\u{4}") 13 0
@@ -322,7 +322,7 @@ limits =
     ∷ tooManyAnd (ascii "07") 12 3079
     ∷ []
 
-pub the-limits : Stand limits
+pub the-limits : Stand limitCases
 unfolding all-definitions
 the-limits = refl
 

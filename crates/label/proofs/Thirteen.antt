@@ -94,8 +94,8 @@ record Example : Type 0 where
 abbrev WrittenSo : Example → Type 0
 WrittenSo x = Good edition2005 (x .case .input) (x .envelopes) × (map numbers (rowsOf (x .envelopes)) ≡ tail (x .case .lines))
 
-abbrev accepted : List Example
-accepted =
+abbrev acceptedCases : List Example
+acceptedCases =
     record { case = carton; envelopes = elements 6 (ascii "1P7" ∷ ascii "Q3" ∷ []) ∷ [] }
     ∷ record { case = emptyText; envelopes = text 7 [] ∷ [] }
     ∷ record { case = payload; envelopes = counted 9 (ascii "A") [] (ascii "3") (RS ∷ EOT ∷ GS ∷ []) ∷ [] }
@@ -103,7 +103,7 @@ accepted =
     ∷ record { case = allTheRest; envelopes = wholeRest 2 (ascii "X") ∷ [] }
     ∷ []
 
-pub the-accepted-are-written : Each WrittenSo accepted
+pub the-accepted-are-written : Each WrittenSo acceptedCases
 unfolding all-definitions
 the-accepted-are-written =
     (good _ _ (record { isElement = element06; known = refl; oneOrMore = refl; plainBytes = refl; asStated = refl } and tt) refl refl refl tt tt refl and refl)

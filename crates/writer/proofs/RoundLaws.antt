@@ -19,15 +19,15 @@ use Rattle.label.specs.Writing.{writeAnswerOf, writeAnswer, outputAfter}
 use Rattle.label.proofs.Promises.{accepted-is-good, good-is-read, good-is-accepted}
 use Rattle.label.proofs.RowItems.{table-numbers}
 use Rattle.label.proofs.WriterPromises.{written-back-counted, written-back-there}
-use Rattle.writer.specs.Round.{numbersRead, Holds, GoesRound}
+use Rattle.writer.specs.Round.{numbersRead, HoldsRead, GoesRound}
 
 module _ (m : Bytes) (table after : List ℕ) (ample : rowWidth * mostRows ≤ length table) (long : length after ≡ length table) (is : after ≡ tableAfter edition2005 m table) where
   -- accepted: as many rows as are read, and the table's first numbers are theirs
-  pub holds-accepted : (counts : Counts) → answerOf (Accepted counts) ≡ readAnswer edition2005 m (roomOf table) → Holds m (rowWidth * counts .rows) after
+  pub holds-accepted : (counts : Counts) → answerOf (Accepted counts) ≡ readAnswer edition2005 m (roomOf table) → HoldsRead m (rowWidth * counts .rows) after
   unfolding readAnswer
   holds-accepted counts says = by (reading edition2005 m) refl
     where
-      by : (o : Outcome) → reading edition2005 m ≡ o → Holds m (rowWidth * counts .rows) after
+      by : (o : Outcome) → reading edition2005 m ≡ o → HoldsRead m (rowWidth * counts .rows) after
       by (read es) reads =
           let good = accepted-is-good edition2005 m es reads in
           let room : length (rowsOf es) ≤ roomOf table = omega (arith, good .notTooMany) in
@@ -39,10 +39,10 @@ module _ (m : Bytes) (table after : List ℕ) (ample : rowWidth * mostRows ≤ l
       by (refused r p) reads = absurd (omega (arith, ap length (says ∙ ap (answered (roomOf table)) reads)))
 
   -- refused: no row is read
-  pub holds-refused : (r : Refusal) → answerOf (Refused r) ≡ readAnswer edition2005 m (roomOf table) → Holds m 0 after
+  pub holds-refused : (r : Refusal) → answerOf (Refused r) ≡ readAnswer edition2005 m (roomOf table) → HoldsRead m 0 after
   holds-refused r says = by (reading edition2005 m) refl
     where
-      by : (o : Outcome) → reading edition2005 m ≡ o → Holds m 0 after
+      by : (o : Outcome) → reading edition2005 m ≡ o → HoldsRead m 0 after
       by (read es) reads =
           let good = accepted-is-good edition2005 m es reads in
           absurd (omega (arith, ap length (says ∙ good-is-accepted edition2005 m es good (roomOf table) (omega (arith, good .notTooMany)))))

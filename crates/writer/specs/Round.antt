@@ -18,7 +18,7 @@ abbrev pub numbersRead : Bytes → List ℕ
 numbersRead m = allNumbers (rowsRead (reading edition2005 m))
 
 -- so many of a table's first numbers are those read
-pub record Holds (m : Bytes) (n : ℕ) (table : List ℕ) : Type 0 where
+pub record HoldsRead (m : Bytes) (n : ℕ) (table : List ℕ) : Type 0 where
   pub inside : n ≤ length table
   pub numbers : take n table ≡ numbersRead m
 

@@ -8,12 +8,12 @@ ghost use lib.ListN.{length};
 ghost use Rattle.label.specs.Limits.{mostRows, rowWidth};
 ghost use Rattle.label.specs.Formats.{edition2005};
 ghost use Rattle.label.specs.Writing.{writeAnswerOf, writeAnswer, outputAfter};
-ghost use Rattle.writer.specs.Round.{numbersRead, Holds, GoesRound};
+ghost use Rattle.writer.specs.Round.{numbersRead, HoldsRead, GoesRound};
 
 // Reads a message into a table with room for any, and answers how many numbers the rows read are.
 fn numbers_into(message: &[u8], table: &mut [u32]) -> usize
     requires { ⌜ rowWidth * mostRows ≤ length (now table) ⌝ }
-    ensures { λ r. ⌜ Holds (now (message .entry)) r (now (table .exit)) ⌝ }
+    ensures { λ r. ⌜ HoldsRead (now (message .entry)) r (now (table .exit)) ⌝ }
 {
     let reading = reader::read(message, table);
     match reading {
