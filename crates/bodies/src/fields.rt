@@ -57,7 +57,7 @@ pub(crate) fn field_holds(row: usize, i: usize, s: &[u8]) -> bool
     ensures { λ r. ⌜ r ≡ fieldIn row i (now (s .entry)) ⌝ }
 {
     let limit = label::limits_of(row, i);
-    let fits = (limit.0 <= s.len()) & (s.len() <= limit.1);
+    let fits = (limit.0 as usize <= s.len()) & (s.len() <= limit.1 as usize);
     let right = field_bytes(i, s);
     (fits & right) | ((5 <= i) & (s.len() == 0))
 }

@@ -92,8 +92,8 @@ pub fn write_number_of(reason: WriteReason) -> u32
     }
 }
 
-// The least and the greatest length of a transport field.
-pub struct Limit(pub usize, pub usize);
+// The least and the greatest length of a transport field. In a byte each, since the table is laid out anew at each call.
+pub struct Limit(pub u8, pub u8);
 
 // 'Transport fields': a row for each version, 02 and then 96, with a pair for each field in its order. Version 96 has no
 // field 15.
@@ -134,21 +134,15 @@ const LIMITS: [[Limit; 15]; 2] = [
     ],
 ];
 
-// The limits of a field, by version (0 for 02, 1 for 96) and field (0 for field No. 1); 0 and 0 where there is none. The version's
-// row is taken first: with both indices at once the whole table would be copied at each call.
+// The limits of a field, by version (0 for 02, 1 for 96) and field (0 for field No. 1); 0 and 0 where there is none.
 pub fn limits_of(version: usize, field: usize) -> Limit
     ensures { λ r. ⌜ r ≡ limitOf version field ⌝ }
 {
+    if 2 <= version {
+        return Limit(0, 0);
+    }
     if 15 <= field {
         return Limit(0, 0);
     }
-    if version == 0 {
-        let row = LIMITS[0];
-        return row[field];
-    }
-    if version == 1 {
-        let row = LIMITS[1];
-        return row[field];
-    }
-    Limit(0, 0)
+    LIMITS[version][field]
 }

@@ -31,7 +31,7 @@ fn in_limits(row: usize, i: usize, size: usize) -> bool
     ensures { λ r. ⌜ r ≡ fitsIn row i size ⌝ }
 {
     let limit = label::limits_of(row, i);
-    ((limit.0 <= size) & (size <= limit.1)) | ((5 <= i) & (size == 0))
+    ((limit.0 as usize <= size) & (size <= limit.1 as usize)) | ((5 <= i) & (size == 0))
 }
 
 // The same by the field's kind.

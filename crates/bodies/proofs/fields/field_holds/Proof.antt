@@ -11,6 +11,12 @@ use Rattle.bodies.proofs.fields.field_holds.Tie as tie
 limits-of-requires : tie.Need-limits-of-requires
 limits-of-requires c κs = search needs
 
+cast-fits : tie.Need-cast-fits
+cast-fits c = search needs
+
+cast-fits-2 : tie.Need-cast-fits-2
+cast-fits-2 c = search needs
+
 field-bytes-requires : tie.Need-field-bytes-requires
 field-bytes-requires c κs = search needs
 
@@ -23,4 +29,4 @@ returns c =
     || leb 5 i && no-bytes s j
 
 pub field-holds-spec : {M : Type 1} → statement M
-field-holds-spec = tie.close (tie.spec limits-of-requires field-bytes-requires returns)
+field-holds-spec = tie.close (tie.spec limits-of-requires cast-fits cast-fits-2 field-bytes-requires returns)
