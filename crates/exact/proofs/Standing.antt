@@ -6,6 +6,7 @@ use native.Mathlib.Numerals.{add-one}
 use native.Mathlib.Omega.{arith}
 use lib.ListN.{length, getD, drop}
 use lib.Seq.{drop-cons}
+use Rattle.label.specs.declared.Stretch.{Stretch}
 use Rattle.label.specs.Bytes.{Bytes}
 use Rattle.label.specs.Limits.{longest}
 use Rattle.label.specs.Formats.{edition2005}
@@ -13,7 +14,7 @@ use Rattle.label.specs.Layout.{Row}
 use Rattle.label.specs.Message.{Each}
 use Rattle.label.specs.ReadMessage.{reading}
 use Rattle.label.specs.Answer.{rowsRead}
-use Rattle.label.specs.Part.{Stretch, stretchAt, partOf}
+use Rattle.label.specs.Part.{stretchAt, partOf}
 use Rattle.leaves.proofs.Turns.{drop-past}
 use Rattle.walk.specs.declared.Cursor.{Cursor}
 use Rattle.walk.specs.Cursors.{rowOf, nextCursor}
@@ -58,7 +59,7 @@ module _ (m : Bytes) where
   unfolding partOf
   lies-by i start long is inside =
       let there = stretch-first all i ∙ is in
-      record { from = sym (ap (λ (s : Stretch). s .start) there); spans = sym (ap (λ (s : Stretch). s .length) there); inside = inside }
+      record { from = sym (ap (λ (s : Stretch). s .start) there); measures = sym (ap (λ (s : Stretch). s .length) there); inside = inside }
 
   pub lies-here : (c : Cursor) (i : ℕ) → Yields m c (drop i all) → i < length all → Lies m i (c .start) (c .length)
   lies-here c i yields more =

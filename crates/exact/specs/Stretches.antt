@@ -9,5 +9,5 @@ use Rattle.label.specs.Part.{partOf}
 -- these are the start and the length of a row's part, and it lies in the message
 pub record Lies (m : Bytes) (row start long : ℕ) : Type 0 where
   pub from : start ≡ partOf edition2005 m row .start
-  pub spans : long ≡ partOf edition2005 m row .length
+  pub measures : long ≡ partOf edition2005 m row .length
   pub inside : start + long ≤ length m

@@ -1,8 +1,8 @@
 // The first pass over a message: each envelope is judged from the left, envelopes and rows are counted, and nothing is written.
 mod body;
+mod envelopes;
 mod format;
 mod header;
-mod walk;
 
 use bodies::Kind;
 use label::LONGEST;
@@ -110,5 +110,5 @@ pub fn judge(m: &[u8]) -> Reading
     if agreed < 4 {
         return refusal(Reason::NoMessageHeader, agreed);
     }
-    within_rows(walk::walk_envelopes(m))
+    within_rows(envelopes::walk_envelopes(m))
 }

@@ -4,9 +4,10 @@ use Prim.Native.Nat.{ℕ, zero, suc}
 use mathlib.Core.Path.{_≡_, refl}
 use mathlib.Core.List.{List, [], _∷_, _++_, map}
 use lib.ListN.{length, replicate}
+use Rattle.label.specs.declared.Stretch.{Stretch}
 use Rattle.label.specs.Bytes.{Bytes, ascii}
 use Rattle.label.specs.Formats.{edition2005}
-use Rattle.label.specs.Part.{Stretch, partOf}
+use Rattle.label.specs.Part.{partOf}
 use Rattle.label.specs.Writing.{writeAnswer, outputAfter}
 use Rattle.label.proofs.Cases.{all-definitions}
 use Rattle.label.proofs.Thirteen.{carton, emptyText, noTrailer}

@@ -1,16 +1,12 @@
 -- Which part of a message is handed back for a row number (01, Numbers for the receiving desk, last but one paragraph).
 use Prim.Native.Nat.{ℕ, zero, suc}
 use mathlib.Core.List.{List, [], _∷_}
+use Rattle.label.specs.declared.Stretch.{Stretch}
 use Rattle.label.specs.Bytes.{Bytes}
 use Rattle.label.specs.Formats.{Edition}
 use Rattle.label.specs.Layout.{Row}
 use Rattle.label.specs.ReadMessage.{reading}
 use Rattle.label.specs.Answer.{rowsRead}
-
--- a stretch of a message
-pub record Stretch : Type 0 where
-  pub start : ℕ
-  pub length : ℕ
 
 -- the empty part at the message's start
 abbrev pub emptyStart : Stretch

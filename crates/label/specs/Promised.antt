@@ -5,6 +5,7 @@ use mathlib.Core.Logic.{_⊎_}
 use mathlib.Core.List.{List, [], _∷_, _++_}
 use lib.ListN.{length, take, drop}
 use Rattle.label.specs.declared.Reason.{Reason}
+use Rattle.label.specs.declared.Stretch.{Stretch}
 use Rattle.label.specs.declared.Reason.the-variants.{NoRoom}
 use Rattle.label.specs.Bytes.{Bytes}
 use Rattle.label.specs.Limits.{rowWidth}
@@ -14,7 +15,6 @@ use Rattle.label.specs.Envelope.{Envelope, counted}
 use Rattle.label.specs.Message.{messageParts, rowsOf, Good}
 use Rattle.label.specs.ReadMessage.{refused, reading}
 use Rattle.label.specs.Answer.{refusal, roomOf, readAnswer, tableAfter}
-use Rattle.label.specs.Part.{Stretch}
 use Rattle.label.specs.Place.{PlaceFor}
 use Rattle.label.specs.Writing.{rowsIn, itemsIn}
 

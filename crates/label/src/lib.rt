@@ -34,6 +34,12 @@ pub struct Refusal {
     pub place: usize,
 }
 
+// A stretch of a message.
+pub struct Stretch {
+    pub start: usize,
+    pub length: usize,
+}
+
 // How many envelopes and rows an accepted message has.
 pub struct Counts {
     pub envelopes: usize,

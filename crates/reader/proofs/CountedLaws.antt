@@ -30,8 +30,8 @@ use Rattle.judge.proofs.FormatLaws.{shown-09}
 use Rattle.walk.specs.declared.Stage.{Stage}
 use Rattle.walk.specs.declared.Stage.the-variants.{TypeValue, CompressionValue, CountValue, Body}
 use Rattle.walk.specs.declared.Cursor.{Cursor}
-use Rattle.reader.specs.declared.counted.Value.{Value}
-use Rattle.reader.specs.declared.quick.Passed.{Passed}
+use Rattle.reader.specs.declared.quick.counted.Value.{Value}
+use Rattle.reader.specs.declared.quick.notes.Passed.{Passed}
 use Rattle.walk.specs.Shapes.{shapeOf}
 use Rattle.walk.specs.Cursors.{ahead, runOf, plainRun, countFrom, standing, plainRow, indicatorAt, opening, following, nextCursor}
 use Rattle.reader.specs.Quick.{Framed, RunsTo, Noted, Notable, NotedOne, FormatSwept}

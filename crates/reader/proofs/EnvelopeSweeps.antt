@@ -31,7 +31,7 @@ use Rattle.judge.proofs.HeaderLaws.{drop-two, read-some}
 use Rattle.judge.proofs.FormatLaws.{shown-05, shown-06, shown-07}
 use Rattle.walk.specs.declared.Stage.the-variants.{Indicator, Piece, Body}
 use Rattle.walk.specs.declared.Cursor.{Cursor}
-use Rattle.reader.specs.declared.quick.Passed.{Passed}
+use Rattle.reader.specs.declared.quick.notes.Passed.{Passed}
 use Rattle.walk.specs.Shapes.{shapeOf}
 use Rattle.walk.specs.Cursors.{ahead, standing, plainRow, indicatorAt, opening, following, nextCursor}
 use Rattle.reader.specs.Quick.{Framed, Noted, Notable, NotedOne, ElementsOf, BodySwept, FormatSwept, EnvelopeSwept}

@@ -21,10 +21,10 @@ use Rattle.judge.specs.Turns.{resultOf, Sound, TurnSo, boundaryTurn}
 use Rattle.judge.proofs.BodyLaws.{cond-no}
 use Rattle.judge.proofs.WalkLaws.{boundary-next, boundary-last, turn-closed, closed-so}
 use Rattle.judge.proofs.JudgeLaws.{judge-walk}
-use Rattle.reader.specs.declared.quick.Passed.{Passed}
-use Rattle.reader.specs.declared.quick.Wanted.{Wanted}
-use Rattle.reader.specs.declared.quick.Swept.{Swept}
-use Rattle.reader.specs.declared.quick.Swept.the-variants.{Good, Full, Left}
+use Rattle.reader.specs.declared.quick.notes.Passed.{Passed}
+use Rattle.reader.specs.declared.quick.notes.Wanted.{Wanted}
+use Rattle.reader.specs.declared.quick.message.Swept.{Swept}
+use Rattle.reader.specs.declared.quick.message.Swept.the-variants.{Good, Full, Left}
 use Rattle.walk.specs.Cursors.{indicatorAt, firstCursor}
 use Rattle.reader.specs.Quick.{Headed, Kept, Noted, EnvelopeSwept, FirstAt, SaysNothing, EndsSo, SweptSo}
 

@@ -15,8 +15,8 @@ use Rattle.label.specs.ReadMessage.{reading}
 use Rattle.label.specs.Answer.{rowsRead}
 use Rattle.walk.specs.Cursors.{rowOf}
 use Rattle.exact.specs.Stretches.{Lies}
-use Rattle.reader.specs.declared.quick.Swept.{Swept}
-use Rattle.reader.specs.declared.quick.Swept.the-variants.{Good}
+use Rattle.reader.specs.declared.quick.message.Swept.{Swept}
+use Rattle.reader.specs.declared.quick.message.Swept.the-variants.{Good}
 use Rattle.reader.specs.Quick.{cursorAfter, Holds, Kept, SweptSo, Handed, OneKept}
 use Rattle.walk.proofs.Walks.{Yields}
 use Rattle.walk.proofs.Promises.{walked}

@@ -17,7 +17,7 @@ use Rattle.leaves.specs.Seek.{tallyOf}
 use Rattle.leaves.proofs.Turns.{drop-step, tally-behind}
 use Rattle.walk.specs.declared.Stage.the-variants.{Tag, LaterElement, FurtherSubElement}
 use Rattle.walk.specs.declared.Cursor.{Cursor}
-use Rattle.reader.specs.declared.quick.Passed.{Passed}
+use Rattle.reader.specs.declared.quick.notes.Passed.{Passed}
 use Rattle.walk.specs.Cursors.{ahead, plainRun, standing, plainRow, afterSegment, afterSubElement, following, nextCursor}
 use Rattle.reader.specs.Quick.{Framed, RunsTo, Noted, NotedOne}
 use Rattle.reader.specs.Segments.{stageBehind, inSegment, laterRows, TagTo, LaterSwept, SegmentSwept}

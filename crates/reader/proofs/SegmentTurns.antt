@@ -34,7 +34,7 @@ use Rattle.judge.proofs.FormatTests.{segments-body}
 use Rattle.judge.proofs.FormatLaws.{shown-03, shown-04}
 use Rattle.walk.specs.declared.Stage.the-variants.{Tag, ReleaseValue}
 use Rattle.walk.specs.declared.Cursor.{Cursor}
-use Rattle.reader.specs.declared.quick.Passed.{Passed}
+use Rattle.reader.specs.declared.quick.notes.Passed.{Passed}
 use Rattle.walk.specs.Shapes.{shapeOf}
 use Rattle.walk.specs.Cursors.{ahead, standing, plainRow, indicatorAt, opening, afterSegment, following, nextCursor}
 use Rattle.reader.specs.Quick.{Framed, Noted, NotedOne, BodySwept, FormatSwept}

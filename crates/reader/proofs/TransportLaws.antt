@@ -24,7 +24,7 @@ use Rattle.judge.specs.Shown.{shown}
 use Rattle.judge.proofs.FormatLaws.{shown-01}
 use Rattle.walk.specs.declared.Stage.the-variants.{VersionValue, Piece}
 use Rattle.walk.specs.declared.Cursor.{Cursor}
-use Rattle.reader.specs.declared.quick.Passed.{Passed}
+use Rattle.reader.specs.declared.quick.notes.Passed.{Passed}
 use Rattle.walk.specs.Shapes.{shapeOf}
 use Rattle.walk.specs.Cursors.{standing, plainRow, opening, following, nextCursor}
 use Rattle.reader.specs.Quick.{Noted, Notable, NotedOne, FirstAt, BodySwept, FormatSwept}

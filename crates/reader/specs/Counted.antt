@@ -10,8 +10,8 @@ use Rattle.leaves.specs.Classes.{classOf}
 use Rattle.judge.specs.declared.Found.{Found}
 use Rattle.judge.specs.declared.Found.the-variants.{Closed}
 use Rattle.judge.specs.Headers.{valueEnd}
-use Rattle.reader.specs.declared.counted.Value.{Value}
-use Rattle.reader.specs.declared.quick.Passed.{Passed}
+use Rattle.reader.specs.declared.quick.counted.Value.{Value}
+use Rattle.reader.specs.declared.quick.notes.Passed.{Passed}
 use Rattle.walk.specs.declared.Stage.{Stage}
 use Rattle.walk.specs.Cursors.{plainRow, indicatorAt, following}
 use Rattle.reader.specs.Quick.{Framed, RunsTo, Noted}

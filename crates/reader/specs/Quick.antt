@@ -21,10 +21,10 @@ use Rattle.judge.specs.declared.Found.the-variants.{Closed}
 use Rattle.judge.specs.Shown.{shown, judgedAs}
 use Rattle.judge.specs.Bodies.{bodyFound}
 use Rattle.walk.specs.declared.Cursor.{Cursor}
-use Rattle.reader.specs.declared.quick.Passed.{Passed}
-use Rattle.reader.specs.declared.quick.Wanted.{Wanted}
-use Rattle.reader.specs.declared.quick.Swept.{Swept}
-use Rattle.reader.specs.declared.quick.Swept.the-variants.{Good, Full, Left}
+use Rattle.reader.specs.declared.quick.notes.Passed.{Passed}
+use Rattle.reader.specs.declared.quick.notes.Wanted.{Wanted}
+use Rattle.reader.specs.declared.quick.message.Swept.{Swept}
+use Rattle.reader.specs.declared.quick.message.Swept.the-variants.{Good, Full, Left}
 use Rattle.walk.specs.Cursors.{runOf, rowOf, indicatorAt, firstCursor, nextCursor}
 
 -- a message that ends with EOT: a run of bytes of a class without EOT ends before the message does

@@ -15,8 +15,8 @@ use Rattle.bodies.specs.declared.Kind.the-variants.{Segments03, Segments04}
 use Rattle.walk.specs.declared.Stage.{Stage}
 use Rattle.walk.specs.declared.Stage.the-variants.{LaterElement, FurtherSubElement}
 use Rattle.walk.specs.declared.Cursor.{Cursor}
-use Rattle.reader.specs.declared.quick.Passed.{Passed}
-use Rattle.reader.specs.declared.quick.Wanted.{Wanted}
+use Rattle.reader.specs.declared.quick.notes.Passed.{Passed}
+use Rattle.reader.specs.declared.quick.notes.Wanted.{Wanted}
 use Rattle.walk.specs.Cursors.{afterSegment}
 use Rattle.reader.specs.Quick.{Framed, RunsTo, Noted}
 

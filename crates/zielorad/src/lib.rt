@@ -81,9 +81,9 @@ pub extern "C" fn zielorad_write(held: &[u8], rows: &[u32], output: &mut [u8]) -
 pub extern "C" fn zielorad_part_of(message: &[u8], row: usize) -> ZieloradPart
     ensures { λ r. ⌜ r ≡ partFor (now (message .entry)) row ⌝ }
 {
-    let span = reader::span_of(message, row);
+    let stretch = reader::stretch_of(message, row);
     ZieloradPart {
-        start: span.start,
-        length: span.length,
+        start: stretch.start,
+        length: stretch.length,
     }
 }

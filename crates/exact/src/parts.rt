@@ -1,0 +1,62 @@
+// How many rows are read in a message, and where a row's part lies, by the exact reader.
+use label::Reading;
+use label::Stretch;
+use walk::Cursor;
+use walk::advance;
+use walk::first;
+ghost use Prim.Native.Nat.{_<_};
+ghost use mathlib.Core.Path.{_≡_};
+ghost use lib.ListN.{length};
+ghost use Rattle.label.specs.Formats.{edition2005};
+ghost use Rattle.label.specs.ReadMessage.{reading};
+ghost use Rattle.label.specs.Answer.{rowsRead};
+ghost use Rattle.exact.specs.Stretches.{Lies};
+
+// How many rows are read in a message, in a refused one none.
+pub fn rows_of(m: &[u8]) -> usize
+    ensures { λ r. ⌜ r ≡ length (rowsRead (reading edition2005 (now (m .entry)))) ⌝ }
+{
+    let judged = judge::judge(m);
+    match judged {
+        Reading::Accepted(counts) => counts.rows,
+        Reading::Refused(refusal) => 0,
+    }
+}
+
+// The walk to a row that the message has.
+fn cursor_at(m: &[u8], row: usize) -> Cursor
+    requires { ⌜ row < length (rowsRead (reading edition2005 (now m))) ⌝ }
+    ensures { λ r. ⌜ Lies (now (m .entry)) row (r .start) (r .length) ⌝ }
+{
+    let mut c = first(m);
+    let mut i = 0;
+    while i < row {
+        c = advance(m, c);
+        i += 1;
+    }
+    c
+}
+
+// The empty start.
+pub fn nowhere() -> Stretch
+    ensures { λ r. ⌜ r ≡ record { start = 0; length = 0 } ⌝ }
+{
+    Stretch {
+        start: 0,
+        length: 0,
+    }
+}
+
+// Where a row's part lies, by the exact reader; the empty start where there is no such row.
+pub fn stretch_exactly(m: &[u8], row: usize) -> Stretch
+    ensures { λ r. ⌜ Lies (now (m .entry)) row (r .start) (r .length) ⌝ }
+{
+    if row < rows_of(m) {
+        let c = cursor_at(m, row);
+        return Stretch {
+            start: c.start,
+            length: c.length,
+        };
+    }
+    nowhere()
+}

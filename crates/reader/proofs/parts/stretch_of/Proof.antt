@@ -1,0 +1,47 @@
+-- `stretch_of` is the quick path's answer where that has one, and the exact reader's elsewhere.
+use native.Mathlib.Omega.{arith}
+use Rattle.reader.proofs.NotedRows.{one-kept}
+use borrow.Author.Needs.{needs}
+use Rattle.reader.proofs.parts.stretch_of.Statement.{statement}
+use Rattle.reader.proofs.parts.stretch_of.Tie as tie
+
+slice-aggregate-sweep : tie.Need-slice-aggregate-sweep
+slice-aggregate-sweep c = search needs
+
+sweep-requires : tie.Need-sweep-requires
+sweep-requires c κs = search needs
+
+enum-known-swept : tie.Need-enum-known-swept
+enum-known-swept c = search needs
+
+slice-aggregate-stretch-noted : tie.Need-slice-aggregate-stretch-noted
+slice-aggregate-stretch-noted c = search needs
+
+stretch-noted-requires : tie.Need-stretch-noted-requires
+stretch-noted-requires c κs =
+    let args = c .before .before .before .before .before .before .before .before .args in
+    let sweep = c .before .before .before .before .before .sweep in
+    let given = c .before .before .swept .given in
+    one-kept (args .m .now) (args .row) 1024 (sweep .last .1 .1 .0) (sweep .result) (given .0 .0) (given .1) (sweep .ensures) (omega arith)
+
+stretch-exactly-requires : tie.Need-stretch-exactly-requires
+stretch-exactly-requires c κs = search needs
+
+returns : tie.Need-returns
+returns c = search needs
+
+returns-2 : tie.Need-returns-2
+returns-2 c = search needs
+
+pub stretch-of-spec : {M : Type 1} → statement M
+stretch-of-spec =
+    tie.close
+    (tie.spec
+    slice-aggregate-sweep
+    sweep-requires
+    enum-known-swept
+    slice-aggregate-stretch-noted
+    stretch-noted-requires
+    stretch-exactly-requires
+    returns
+    returns-2)

@@ -1,0 +1,49 @@
+-- `element_end` is the end of 05 or of 06, by the kind of body.
+use mathlib.Core.Path.{sym, subst}
+use native.Mathlib.Omega.{arith}
+use Rattle.bodies.specs.declared.Kind.{Kind}
+use Rattle.bodies.specs.Kinds.{pieceTest}
+use Rattle.reader.specs.Quick.{PassesTo}
+use borrow.Author.Needs.{needs}
+use Rattle.reader.proofs.quick.elements.element_end.Statement.{statement}
+use Rattle.reader.proofs.quick.elements.element_end.Tie as tie
+
+enum-told : tie.Need-enum-told
+enum-told c = search needs
+
+end-of-05-requires : tie.Need-end-of-05-requires
+end-of-05-requires c κs = search needs
+
+enum-told-2 : tie.Need-enum-told-2
+enum-told-2 c = search needs
+
+end-of-06-requires : tie.Need-end-of-06-requires
+end-of-06-requires c κs = search needs
+
+returns : tie.Need-returns
+returns c =
+    λ some.
+    let args = c .before .before .before .before .args in
+    subst (λ (k : Kind). PassesTo (pieceTest k 0) (args .m .now) (args .at) (c .end-of-05 .result)) (sym (c .before .enum-told .given .1)) (c .end-of-05 .ensures some)
+
+returns-2 : tie.Need-returns-2
+returns-2 c =
+    λ some.
+    let args = c .before .before .before .before .args in
+    subst (λ (k : Kind). PassesTo (pieceTest k 0) (args .m .now) (args .at) (c .end-of-06 .result)) (sym (c .before .enum-told2 .given .1)) (c .end-of-06 .ensures some)
+
+returns-3 : tie.Need-returns-3
+returns-3 c =
+    λ some. absurd (omega arith)
+
+pub element-end-spec : {M : Type 1} → statement M
+element-end-spec =
+    tie.close
+    (tie.spec
+    enum-told
+    end-of-05-requires
+    enum-told-2
+    end-of-06-requires
+    returns
+    returns-2
+    returns-3)

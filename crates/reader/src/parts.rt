@@ -1,0 +1,65 @@
+// The part of a message that a row names, handed back uncopied.
+use crate::quick::Swept;
+use crate::quick::Wanted;
+use crate::quick::sweep;
+use label::Stretch;
+ghost use Prim.Native.Nat.{_+_};
+ghost use mathlib.Core.Path.{_≡_};
+ghost use lib.ListN.{take, drop};
+ghost use Rattle.label.specs.Formats.{edition2005};
+ghost use Rattle.label.specs.Part.{partOf};
+ghost use Rattle.exact.specs.Stretches.{Lies};
+ghost use Rattle.reader.specs.Quick.{OneKept};
+
+// A noted number as an offset or a length.
+fn offset_of(x: u16) -> usize
+    ensures { λ r. ⌜ r ≡ x ⌝ }
+{
+    x as usize
+}
+
+// Where a row's part lies, of a message that was swept and whose row of that number, if it has one, is noted.
+fn stretch_noted(m: &[u8], row: usize, rows: usize, note: &[u16]) -> Stretch
+    requires { ⌜ OneKept (now m) row rows (now note) ⌝ }
+    ensures { λ r. ⌜ Lies (now (m .entry)) row (r .start) (r .length) ⌝ }
+{
+    if row < rows {
+        return Stretch {
+            start: offset_of(note[2]),
+            length: offset_of(note[3]),
+        };
+    }
+    exact::nowhere()
+}
+
+// Where a row's part lies; the empty start where there is no such row. The quick path notes this row alone.
+pub fn stretch_of(m: &[u8], row: usize) -> Stretch
+    ensures { λ r. ⌜ Lies (now (m .entry)) row (r .start) (r .length) ⌝ }
+{
+    let mut note = [0u16; 4];
+    let swept = sweep(
+        m,
+        Wanted {
+            from: row,
+            most: 1024,
+        },
+        &mut note,
+    );
+    match swept {
+        Swept::Good(counts) => stretch_noted(m, row, counts.rows, &note),
+        _ => exact::stretch_exactly(m, row),
+    }
+}
+
+// The part of a message that a row names, counted from 0: these bytes, at this place in the caller's own slice. The empty
+// part at the message's start for a refused message and for a row that it doesn't have.
+pub fn part(message: &[u8], row: usize) -> &[u8]
+    ensures bytes { λ r. ⌜ now r ≡ take (partOf edition2005 (now (message .entry)) row .length) (drop (partOf edition2005 (now (message .entry)) row .start) (now (message .entry))) ⌝ }
+    ensures block { λ r. ⌜ r .ptr .0 ≡ message .entry .ptr .0 ⌝ }
+    ensures place { λ r. ⌜ r .ptr .1 ≡ partOf edition2005 (now (message .entry)) row .start + message .entry .ptr .1 ⌝ }
+{
+    let s = stretch_of(message, row);
+    let start = s.start;
+    let end = start + s.length;
+    &message[start..end]
+}

@@ -1,0 +1,130 @@
+// The quick path over format 09: three header values, each with its GS, then the payload and its RS. What it doesn't know at
+// once it leaves, as all of the quick path does.
+use crate::quick::notes::Passed;
+use crate::quick::notes::Wanted;
+use crate::quick::notes::given_up;
+use crate::quick::notes::note;
+use crate::quick::runs::run_end;
+use leaves::Class;
+use leaves::GS;
+use leaves::RS;
+use walk::Stage;
+use walk::count_from;
+use walk::standing_at;
+ghost use Prim.Native.Nat.{_+_, _≤_, _<_};
+ghost use lib.ListN.{length};
+ghost use Rattle.label.specs.Limits.{mostRows};
+ghost use Rattle.label.specs.Formats.{edition2005, ruleOf};
+ghost use Rattle.judge.specs.Formats.{countFound, compressionFound};
+ghost use Rattle.walk.specs.Shapes.{shapeOf};
+ghost use Rattle.walk.specs.Cursors.{opening};
+ghost use Rattle.reader.specs.Quick.{Framed, IfAny, Noted, FormatSwept};
+ghost use Rattle.reader.specs.Counted.{Due, PlainBytes, ValueSwept, PartSwept};
+
+// What a header value has to be: the stage of its row, its bytes' class, its least and its greatest length.
+pub struct Value {
+    pub stage: Stage,
+    pub class: Class,
+    pub least: usize,
+    pub most: usize,
+}
+
+// Notes the row of a header value and answers the offset behind its GS, or 0.
+fn sweep_value(m: &[u8], from: usize, v: Value, at: usize, rows: usize, notes: &mut [u16]) -> usize
+    requires { ⌜ Due (now m) from (v .stage) at rows 1 (now notes) × PlainBytes v ⌝ }
+    ensures { λ r. ⌜ IfAny r (ValueSwept (now (m .entry)) from v at rows r (now (notes .exit))) ⌝ }
+{
+    let class = v.class;
+    let stage = v.stage;
+    let end = run_end(m, class, at);
+    let size = end - at;
+    if (size < v.least) | (v.most < size) {
+        return 0;
+    }
+    if m[end] != GS {
+        return 0;
+    }
+    note(notes, from, rows, standing_at(stage, 9, at, size));
+    end + 1
+}
+
+// The count and the payload.
+fn sweep_payload(m: &[u8], from: usize, count: usize, rows: usize, notes: &mut [u16]) -> Passed
+    requires { ⌜ Due (now m) from Stage.CountValue count rows 2 (now notes) ⌝ }
+    ensures { λ r. ⌜ IfAny (r .next) (PartSwept (now (m .entry)) from (countFound (now (m .entry)) count) (rows + 2) r (now (notes .exit))) ⌝ }
+{
+    let v = Value {
+        stage: Stage::CountValue,
+        class: Class::Digit,
+        least: 1,
+        most: 15,
+    };
+    let at = sweep_value(m, from, v, count, rows, notes);
+    if at == 0 {
+        return given_up(rows);
+    }
+    let n = count_from(m, count);
+    if m.len() - at <= n {
+        return given_up(rows);
+    }
+    if m[at + n] != RS {
+        return given_up(rows);
+    }
+    note(notes, from, rows + 1, standing_at(Stage::Body, 9, at, n));
+    Passed {
+        next: at + n + 1,
+        rows: rows + 2,
+    }
+}
+
+// The compression, and what follows it.
+fn sweep_compression(m: &[u8], from: usize, at: usize, rows: usize, notes: &mut [u16]) -> Passed
+    requires { ⌜ Due (now m) from Stage.CompressionValue at rows 3 (now notes) ⌝ }
+    ensures { λ r. ⌜ IfAny (r .next) (PartSwept (now (m .entry)) from (compressionFound (now (m .entry)) at) (rows + 3) r (now (notes .exit))) ⌝ }
+{
+    let v = Value {
+        stage: Stage::CompressionValue,
+        class: Class::Plain,
+        least: 0,
+        most: 30,
+    };
+    let count = sweep_value(m, from, v, at, rows, notes);
+    if count == 0 {
+        return given_up(rows);
+    }
+    sweep_payload(m, from, count, rows + 1, notes)
+}
+
+// 09: GS, the type, and what follows it. There are four rows.
+pub(crate) fn sweep_counted(
+    m: &[u8],
+    w: Wanted,
+    at: usize,
+    rows: usize,
+    notes: &mut [u16],
+) -> Passed
+    requires { ⌜ (Framed (now m) × (at < length (now m))) × ((w .most ≤ mostRows) × Noted (now m) (w .from) (now notes) rows (opening (now m) 9 at (shapeOf (ruleOf edition2005 9)))) ⌝ }
+    ensures { λ r. ⌜ IfAny (r .next) (FormatSwept (now (m .entry)) (w .from) 9 at rows r (now (notes .exit))) ⌝ }
+{
+    if w.most <= rows {
+        return given_up(rows);
+    }
+    if w.most - rows < 4 {
+        return given_up(rows);
+    }
+    if m[at] != GS {
+        return given_up(rows);
+    }
+    let v = Value {
+        stage: Stage::TypeValue,
+        class: Class::Plain,
+        least: 1,
+        most: 30,
+    };
+    let from = w.from;
+    let next = sweep_value(m, from, v, at + 1, rows, notes);
+    if next == 0 {
+        return given_up(rows);
+    }
+    sweep_compression(m, from, next, rows + 1, notes)
+}

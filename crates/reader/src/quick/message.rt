@@ -1,0 +1,133 @@
+// The quick path over a whole message: its frame, then an envelope a turn, each by its format.
+use crate::quick::counted::sweep_counted;
+use crate::quick::elements::sweep_elements;
+use crate::quick::notes::Passed;
+use crate::quick::notes::Wanted;
+use crate::quick::notes::given_up;
+use crate::quick::notes::note;
+use crate::quick::segments::sweep_segments;
+use crate::quick::text::sweep_text;
+use crate::quick::transport::sweep_transport;
+use bodies::Kind;
+use label::Counts;
+use label::LONGEST;
+use leaves::EOT;
+use leaves::RS;
+use walk::Stage;
+use walk::standing_at;
+ghost use Prim.Native.Nat.{_≤_, _<_};
+ghost use lib.ListN.{length};
+ghost use Rattle.label.specs.Limits.{mostRows};
+ghost use Rattle.label.specs.Formats.{edition2005, ruleOf};
+ghost use Rattle.walk.specs.Shapes.{shapeOf};
+ghost use Rattle.walk.specs.Cursors.{indicatorAt, opening};
+ghost use Rattle.reader.specs.Quick.{Framed, IfAny, Noted, FormatSwept, EnvelopeSwept, IfSo, Headed, SaysNothing, EndsSo, SweptSo};
+
+// A good message with its counts, one with more rows than were asked for, or one that is left.
+pub enum Swept {
+    Good(Counts),
+    Full,
+    Left,
+}
+
+// The format with a number, behind its indicator.
+fn sweep_format(m: &[u8], w: Wanted, f: u32, at: usize, rows: usize, notes: &mut [u16]) -> Passed
+    requires { ⌜ (Framed (now m) × (at < length (now m))) × ((w .most ≤ mostRows) × Noted (now m) (w .from) (now notes) rows (opening (now m) f at (shapeOf (ruleOf edition2005 f)))) ⌝ }
+    ensures { λ r. ⌜ IfAny (r .next) (FormatSwept (now (m .entry)) (w .from) f at rows r (now (notes .exit))) ⌝ }
+{
+    match f {
+        1 => sweep_transport(m, w, at, rows, notes),
+        3 => sweep_segments(m, w, 3, at, rows, notes),
+        4 => sweep_segments(m, w, 4, at, rows, notes),
+        5 => sweep_elements(m, w, Kind::Elements05, 5, at, rows, notes),
+        6 => sweep_elements(m, w, Kind::Elements06, 6, at, rows, notes),
+        7 => sweep_text(m, w, at, rows, notes),
+        9 => sweep_counted(m, w, at, rows, notes),
+        _ => given_up(rows),
+    }
+}
+
+// An envelope: its indicator, 00 to 09, and its format.
+fn sweep_envelope(m: &[u8], w: Wanted, at: usize, rows: usize, notes: &mut [u16]) -> Passed
+    requires { ⌜ (Framed (now m) × (at < length (now m))) × ((w .most ≤ mostRows) × Noted (now m) (w .from) (now notes) rows (indicatorAt (now m) at)) ⌝ }
+    ensures { λ r. ⌜ IfAny (r .next) (EnvelopeSwept (now (m .entry)) (w .from) at rows r (now (notes .exit))) ⌝ }
+{
+    if m.len() - at < 3 {
+        return given_up(rows);
+    }
+    if w.most <= rows {
+        return given_up(rows);
+    }
+    let units = m[at + 1];
+    if (m[at] != 0x30) | (units < 0x30) | (0x39 < units) {
+        return given_up(rows);
+    }
+    let f = (units - 0x30) as u32;
+    note(notes, w.from, rows, standing_at(Stage::Indicator, f, at, 2));
+    sweep_format(m, w, f, at + 2, rows + 1, notes)
+}
+
+// Whether a message is short enough, begins with its header and ends with EOT.
+fn framed(m: &[u8]) -> bool
+    ensures { λ r. ⌜ IfSo r (Headed (now (m .entry))) ⌝ }
+{
+    if m.len() < 5 {
+        return false;
+    }
+    if LONGEST < m.len() {
+        return false;
+    }
+    let last = m.len() - 1;
+    (m[0] == 0x5B) & (m[1] == 0x29) & (m[2] == 0x3E) & (m[3] == RS) & (m[last] == EOT)
+}
+
+// What is said of a message that isn't swept to its end.
+fn not_swept(rows: usize, most: usize) -> Swept
+    ensures { λ r. ⌜ SaysNothing r ⌝ }
+{
+    if rows < most {
+        Swept::Left
+    } else {
+        Swept::Full
+    }
+}
+
+// At an EOT behind the last envelope: good if it is the message's last byte.
+fn ended(m: &[u8], at: usize, envelopes: usize, rows: usize, most: usize) -> Swept
+    requires { ⌜ at < length (now m) ⌝ }
+    ensures { λ r. ⌜ EndsSo (now (m .entry)) at envelopes rows most r ⌝ }
+{
+    if most < rows {
+        return Swept::Left;
+    }
+    if m.len() - at == 1 {
+        return Swept::Good(Counts { envelopes, rows });
+    }
+    Swept::Left
+}
+
+// Sweeps a whole message, an envelope a turn. The rows that are wanted are in the notes where it says `Good`.
+pub(crate) fn sweep(m: &[u8], w: Wanted, notes: &mut [u16]) -> Swept
+    requires { ⌜ w .most ≤ mostRows ⌝ }
+    ensures { λ r. ⌜ SweptSo (now (m .entry)) w (now (notes .exit)) r ⌝ }
+{
+    if !framed(m) {
+        return Swept::Left;
+    }
+    let most = w.most;
+    let mut at = 4;
+    let mut envelopes = 0;
+    let mut rows = 0;
+    loop {
+        let p = sweep_envelope(m, w, at, rows, notes);
+        at = p.next;
+        rows = p.rows;
+        if at == 0 {
+            return not_swept(rows, most);
+        }
+        envelopes += 1;
+        if m[at] == EOT {
+            return ended(m, at, envelopes, rows, most);
+        }
+    }
+}

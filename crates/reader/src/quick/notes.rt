@@ -1,0 +1,54 @@
+// Notes: the rows that the sweep has gone over, in memory of its own, as four numbers each in the table's layout. And what the sweep of a part of
+// the message answers.
+use walk::Cursor;
+use walk::kind_of;
+ghost use mathlib.Core.Path.{_≡_};
+ghost use Prim.Native.Nat.{_+_, _≤_};
+ghost use lib.ListN.{length, set};
+ghost use Rattle.label.specs.Limits.{longest, rowWidth};
+ghost use Rattle.walk.specs.Cursors.{kindOf};
+ghost use Rattle.reader.specs.Quick.{Notable, NotedOne};
+
+// Which rows are noted, those from a number on as far as the notes reach; and how many rows are gone over at most.
+pub struct Wanted {
+    pub from: usize,
+    pub most: usize,
+}
+
+// Where the sweep goes on, 0 where it leaves the message; and the rows gone over so far.
+pub struct Passed {
+    pub next: usize,
+    pub rows: usize,
+}
+
+// The message is left to the exact reader, after so many rows.
+pub(crate) fn given_up(rows: usize) -> Passed
+    ensures { λ r. ⌜ r .next ≡ 0 ⌝ }
+{
+    Passed { next: 0, rows }
+}
+
+// Puts a row's four numbers into the notes, from an index on.
+fn put_note(notes: &mut [u16], at: usize, c: Cursor)
+    requires { ⌜ (at + rowWidth ≤ length (now notes)) × ((c .start + c .length ≤ longest) × (c .format ≤ 99)) ⌝ }
+    ensures { λ r. ⌜ now (notes .exit) ≡ set (set (set (set (now (notes .entry)) at (kindOf (c .stage))) (at + 1) (c .format)) (at + 2) (c .start)) (at + 3) (c .length) ⌝ }
+{
+    let stage = c.stage;
+    notes[at] = kind_of(stage) as u16;
+    notes[at + 1] = c.format as u16;
+    notes[at + 2] = c.start as u16;
+    notes[at + 3] = c.length as u16;
+}
+
+// Notes a row if it is wanted and there is room.
+pub(crate) fn note(notes: &mut [u16], from: usize, row: usize, c: Cursor)
+    requires { ⌜ Notable row c ⌝ }
+    ensures { λ r. ⌜ NotedOne from (now (notes .entry)) (now (notes .exit)) row c ⌝ }
+{
+    if from <= row {
+        let at = 4 * (row - from);
+        if at + 4 <= notes.len() {
+            put_note(notes, at, c);
+        }
+    }
+}

@@ -1,0 +1,176 @@
+// The quick path over formats 03 and 04: six bytes, FS GS US, then segments up to an RS. What it doesn't know at once it leaves,
+// as all of the quick path does. So it leaves `BIN`, which only 04 takes as a tag, and asks the same of the tags of both.
+use crate::quick::notes::Passed;
+use crate::quick::notes::Wanted;
+use crate::quick::notes::given_up;
+use crate::quick::notes::note;
+use crate::quick::runs::run_end;
+use leaves::Class;
+use leaves::FS;
+use leaves::GS;
+use leaves::RS;
+use leaves::US;
+use walk::Stage;
+use walk::standing_at;
+ghost use mathlib.Core.Path.{_≡_};
+ghost use Prim.Native.Nat.{_≤_, _<_};
+ghost use lib.ListN.{length};
+ghost use Rattle.label.specs.Limits.{mostRows};
+ghost use Rattle.label.specs.Formats.{edition2005, ruleOf};
+ghost use Rattle.walk.specs.Shapes.{shapeOf};
+ghost use Rattle.walk.specs.Cursors.{plainRow, opening, afterSubElement};
+ghost use Rattle.reader.specs.Quick.{Framed, IfAny, Noted, BodySwept, FormatSwept};
+ghost use Rattle.reader.specs.Segments.{stageBehind, segmentsKind, TagTo, SegmentsDue, LaterSwept, SegmentSwept};
+
+// The end of a tag that has GS or FS behind it, or 0.
+fn tag_end(m: &[u8], at: usize) -> usize
+    requires { ⌜ Framed (now m) × (at < length (now m)) ⌝ }
+    ensures { λ r. ⌜ IfAny r (TagTo (now (m .entry)) at r) ⌝ }
+{
+    let end = run_end(m, Class::CapitalOrDigit, at);
+    if end < at + 2 {
+        return 0;
+    }
+    if at + 3 < end {
+        return 0;
+    }
+    let a = m[at];
+    if (a < 0x41) | (0x5A < a) {
+        return 0;
+    }
+    if (a == 0x42) & (m[at + 1] == 0x49) & (m[at + 2] == 0x4E) {
+        return 0;
+    }
+    let b = m[end];
+    if (b != GS) & (b != FS) {
+        return 0;
+    }
+    end
+}
+
+// What the row behind a GS or a US is.
+fn stage_behind(b: u8) -> Stage
+    ensures { λ r. ⌜ r ≡ stageBehind b ⌝ }
+{
+    if b == US {
+        Stage::FurtherSubElement
+    } else {
+        Stage::LaterElement
+    }
+}
+
+// The rows behind a tag, from its end up to the segment's FS: a turn takes a GS or a US and the plain bytes behind it.
+fn sweep_later(
+    m: &[u8],
+    w: Wanted,
+    f: u32,
+    start: usize,
+    before: usize,
+    notes: &mut [u16],
+) -> Passed
+    requires { ⌜ SegmentsDue (now m) w f start before (now notes) (afterSubElement (now m) f start) ⌝ }
+    ensures { λ r. ⌜ IfAny (r .next) (LaterSwept (now (m .entry)) (w .from) f start before r (now (notes .exit))) ⌝ }
+{
+    let most = w.most;
+    let from = w.from;
+    let mut end = start;
+    let mut rows = before;
+    loop {
+        let b = m[end];
+        if b == FS {
+            return Passed {
+                next: end + 1,
+                rows,
+            };
+        }
+        if (b != GS) & (b != US) {
+            return given_up(rows);
+        }
+        if most <= rows {
+            return given_up(rows);
+        }
+        let at = end + 1;
+        end = run_end(m, Class::Plain, at);
+        note(
+            notes,
+            from,
+            rows,
+            standing_at(stage_behind(b), f, at, end - at),
+        );
+        rows += 1;
+    }
+}
+
+// A segment: its tag, and the rows behind it.
+fn sweep_segment(m: &[u8], w: Wanted, f: u32, at: usize, rows: usize, notes: &mut [u16]) -> Passed
+    requires { ⌜ SegmentsDue (now m) w f at rows (now notes) (plainRow (now m) Stage.Tag f at) ⌝ }
+    ensures { λ r. ⌜ IfAny (r .next) (SegmentSwept (now (m .entry)) (w .from) f at rows r (now (notes .exit))) ⌝ }
+{
+    if w.most <= rows {
+        return given_up(rows);
+    }
+    let end = tag_end(m, at);
+    if end == 0 {
+        return given_up(rows);
+    }
+    note(
+        notes,
+        w.from,
+        rows,
+        standing_at(Stage::Tag, f, at, end - at),
+    );
+    sweep_later(m, w, f, end, rows + 1, notes)
+}
+
+// Segments from an offset on, up to an RS: a turn takes a segment.
+fn sweep_body(m: &[u8], w: Wanted, f: u32, start: usize, before: usize, notes: &mut [u16]) -> Passed
+    requires { ⌜ SegmentsDue (now m) w f start before (now notes) (plainRow (now m) Stage.Tag f start) ⌝ }
+    ensures { λ r. ⌜ IfAny (r .next) (BodySwept (now (m .entry)) (w .from) (segmentsKind f) start before r (now (notes .exit))) ⌝ }
+{
+    let mut at = start;
+    let mut rows = before;
+    loop {
+        let p = sweep_segment(m, w, f, at, rows, notes);
+        at = p.next;
+        rows = p.rows;
+        if at == 0 {
+            return given_up(rows);
+        }
+        if m[at] == RS {
+            return Passed { next: at + 1, rows };
+        }
+    }
+}
+
+// 03, 04: six bytes, FS GS US, then segments.
+pub(crate) fn sweep_segments(
+    m: &[u8],
+    w: Wanted,
+    f: u32,
+    at: usize,
+    rows: usize,
+    notes: &mut [u16],
+) -> Passed
+    requires { ⌜ (Framed (now m) × (at < length (now m))) × ((((3 ≤ f) × (f ≤ 4)) × (w .most ≤ mostRows)) × Noted (now m) (w .from) (now notes) rows (opening (now m) f at (shapeOf (ruleOf edition2005 f)))) ⌝ }
+    ensures { λ r. ⌜ IfAny (r .next) (FormatSwept (now (m .entry)) (w .from) f at rows r (now (notes .exit))) ⌝ }
+{
+    if m.len() - at < 10 {
+        return given_up(rows);
+    }
+    if w.most <= rows {
+        return given_up(rows);
+    }
+    if !leaves::all_in(Class::CapitalOrDigit, &m[at..at + 6]) {
+        return given_up(rows);
+    }
+    if (m[at + 6] != FS) | (m[at + 7] != GS) | (m[at + 8] != US) {
+        return given_up(rows);
+    }
+    note(
+        notes,
+        w.from,
+        rows,
+        standing_at(Stage::ReleaseValue, f, at, 6),
+    );
+    sweep_body(m, w, f, at + 9, rows + 1, notes)
+}

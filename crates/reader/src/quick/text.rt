@@ -1,0 +1,43 @@
+// The quick path over format 07: text up to an RS.
+use crate::quick::notes::Passed;
+use crate::quick::notes::Wanted;
+use crate::quick::notes::given_up;
+use crate::quick::notes::note;
+use leaves::Class;
+use leaves::RS;
+use walk::Stage;
+use walk::standing_at;
+ghost use Prim.Native.Nat.{_≤_, _<_};
+ghost use lib.ListN.{length};
+ghost use Rattle.label.specs.Limits.{mostRows};
+ghost use Rattle.label.specs.Formats.{edition2005, ruleOf};
+ghost use Rattle.walk.specs.Shapes.{shapeOf};
+ghost use Rattle.walk.specs.Cursors.{opening};
+ghost use Rattle.reader.specs.Quick.{Framed, IfAny, Noted, FormatSwept};
+
+// 07: text up to an RS.
+pub(crate) fn sweep_text(m: &[u8], w: Wanted, at: usize, rows: usize, notes: &mut [u16]) -> Passed
+    requires { ⌜ (Framed (now m) × (at < length (now m))) × ((w .most ≤ mostRows) × Noted (now m) (w .from) (now notes) rows (opening (now m) 7 at (shapeOf (ruleOf edition2005 7)))) ⌝ }
+    ensures { λ r. ⌜ IfAny (r .next) (FormatSwept (now (m .entry)) (w .from) 7 at rows r (now (notes .exit))) ⌝ }
+{
+    if w.most <= rows {
+        return given_up(rows);
+    }
+    let end = leaves::find_far(m, at, RS);
+    if m.len() <= end {
+        return given_up(rows);
+    }
+    if !leaves::all_in(Class::TextByte, &m[at..end]) {
+        return given_up(rows);
+    }
+    note(
+        notes,
+        w.from,
+        rows,
+        standing_at(Stage::Body, 7, at, end - at),
+    );
+    Passed {
+        next: end + 1,
+        rows: rows + 1,
+    }
+}
