@@ -32,9 +32,10 @@ use Rattle.judge.proofs.FormatLaws.{shown-05, shown-06, shown-07}
 use Rattle.walk.specs.declared.Stage.the-variants.{Indicator, Piece, Body}
 use Rattle.walk.specs.declared.Cursor.{Cursor}
 use Rattle.reader.specs.declared.quick.notes.Passed.{Passed}
+use Rattle.reader.specs.declared.quick.notes.Wanted.{Wanted}
 use Rattle.walk.specs.Shapes.{shapeOf}
 use Rattle.walk.specs.Cursors.{ahead, standing, plainRow, indicatorAt, opening, following, nextCursor}
-use Rattle.reader.specs.Quick.{Framed, Noted, Notable, NotedOne, ElementsOf, BodySwept, FormatSwept, EnvelopeSwept}
+use Rattle.reader.specs.Quick.{Framed, Noted, Notable, NotedOne, ElementsOf, BodySwept, FormatSwept, EnvelopeSwept, StandsAt}
 use Rattle.reader.proofs.ElementEnds.{neither}
 use Rattle.reader.proofs.Framing.{byte-behind}
 
@@ -48,12 +49,12 @@ module _ (m : Bytes) (at : ℕ) (inside : at < length m) where
   begins-gs is = ap (λ bs. eqb (agreement (GS ∷ []) bs) 1) (drop-step m at inside ∙ ap (λ b. b ∷ drop (at + 1) m) is)
 
 -- a format by its number
-module _ (m : Bytes) (from at rows f n : ℕ) (notes : List ℕ) (is : f ≡ n) where
-  pub due-as : Noted m from notes rows (opening m f at (shapeOf (ruleOf edition2005 f))) → Noted m from notes rows (opening m n at (shapeOf (ruleOf edition2005 n)))
-  due-as noted = subst (λ (f : ℕ). Noted m from notes rows (opening m f at (shapeOf (ruleOf edition2005 f)))) is noted
+module _ (m : Bytes) (w : Wanted) (at rows f n : ℕ) (notes : List ℕ) (is : f ≡ n) where
+  pub due-as : StandsAt m w at rows notes (opening m f at (shapeOf (ruleOf edition2005 f))) → StandsAt m w at rows notes (opening m n at (shapeOf (ruleOf edition2005 n)))
+  due-as stands = subst (λ (f : ℕ). StandsAt m w at rows notes (opening m f at (shapeOf (ruleOf edition2005 f)))) is stands
 
-  pub swept-as : (p : Passed) → FormatSwept m from n at rows p notes → FormatSwept m from f at rows p notes
-  swept-as p swept = subst (λ (f : ℕ). FormatSwept m from f at rows p notes) (sym is) swept
+  pub swept-as : (p : Passed) → FormatSwept m (w .from) n at rows p notes → FormatSwept m (w .from) f at rows p notes
+  swept-as p swept = subst (λ (f : ℕ). FormatSwept m (w .from) f at rows p notes) (sym is) swept
 
 -- Elements
 

@@ -8,7 +8,7 @@ use lib.ListN.{length, getD, take, drop}
 use Rattle.label.specs.declared.Counts.{Counts}
 use Rattle.label.specs.declared.Reading.the-variants.{Accepted}
 use Rattle.label.specs.Bytes.{Bytes, EOT, plain, digit}
-use Rattle.label.specs.Limits.{longest, rowWidth}
+use Rattle.label.specs.Limits.{longest, mostRows, rowWidth}
 use Rattle.label.specs.Formats.{edition2005, ruleOf}
 use Rattle.label.specs.Layout.{Row}
 use Rattle.label.specs.ReadEnvelope.{readBy, readEnvelope}
@@ -84,6 +84,13 @@ Kept m from notes rows = (k : ℕ) → rowWidth * k + rowWidth ≤ length notes 
 pub record Noted (m : Bytes) (from : ℕ) (notes : List ℕ) (rows : ℕ) (c : Cursor) : Type 0 where
   pub stands : cursorAfter m rows ≡ c
   pub kept : Kept m from notes rows
+
+-- the sweep is at an offset of a message and has gone over so many rows, and the walk stands at a cursor
+pub record StandsAt (m : Bytes) (w : Wanted) (at rows : ℕ) (notes : List ℕ) (c : Cursor) : Type 0 where
+  pub framed : Framed m
+  pub inside : at < length m
+  pub few : w .most ≤ mostRows
+  pub noted : Noted m (w .from) notes rows c
 
 -- a row that fits the notes' numbers
 pub record Notable (row : ℕ) (c : Cursor) : Type 0 where

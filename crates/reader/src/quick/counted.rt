@@ -11,14 +11,12 @@ use leaves::RS;
 use walk::Stage;
 use walk::count_from;
 use walk::standing_at;
-ghost use Prim.Native.Nat.{_+_, _≤_, _<_};
-ghost use lib.ListN.{length};
-ghost use Rattle.label.specs.Limits.{mostRows};
+ghost use Prim.Native.Nat.{_+_};
 ghost use Rattle.label.specs.Formats.{edition2005, ruleOf};
 ghost use Rattle.judge.specs.Formats.{countFound, compressionFound};
 ghost use Rattle.walk.specs.Shapes.{shapeOf};
 ghost use Rattle.walk.specs.Cursors.{opening};
-ghost use Rattle.reader.specs.Quick.{Framed, IfAny, Noted, FormatSwept};
+ghost use Rattle.reader.specs.Quick.{IfAny, FormatSwept, StandsAt};
 ghost use Rattle.reader.specs.Counted.{Due, PlainBytes, ValueSwept, PartSwept};
 
 // What a header value has to be: the stage of its row, its bytes' class, its least and its greatest length.
@@ -103,7 +101,7 @@ pub(crate) fn sweep_counted(
     rows: usize,
     notes: &mut [u16],
 ) -> Passed
-    requires { ⌜ (Framed (now m) × (at < length (now m))) × ((w .most ≤ mostRows) × Noted (now m) (w .from) (now notes) rows (opening (now m) 9 at (shapeOf (ruleOf edition2005 9)))) ⌝ }
+    requires { ⌜ StandsAt (now m) w at rows (now notes) (opening (now m) 9 at (shapeOf (ruleOf edition2005 9))) ⌝ }
     ensures { λ r. ⌜ IfAny (r .next) (FormatSwept (now (m .entry)) (w .from) 9 at rows r (now (notes .exit))) ⌝ }
 {
     if w.most <= rows {

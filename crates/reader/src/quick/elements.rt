@@ -11,15 +11,14 @@ use leaves::RS;
 use walk::Stage;
 use walk::standing_at;
 ghost use mathlib.Core.Path.{_≡_};
-ghost use Prim.Native.Nat.{_+_, _≤_, _<_};
+ghost use Prim.Native.Nat.{_+_, _<_};
 ghost use lib.ListN.{length, drop};
-ghost use Rattle.label.specs.Limits.{mostRows};
 ghost use Rattle.label.specs.Elements.{element05, element06};
 ghost use Rattle.label.specs.Formats.{edition2005, ruleOf};
 ghost use Rattle.bodies.specs.Kinds.{pieceTest};
 ghost use Rattle.walk.specs.Shapes.{shapeOf};
 ghost use Rattle.walk.specs.Cursors.{plainRow, opening};
-ghost use Rattle.reader.specs.Quick.{Framed, PassesTo, IfAny, digitRun, Noted, ElementsOf, BodySwept, FormatSwept};
+ghost use Rattle.reader.specs.Quick.{Framed, PassesTo, IfAny, digitRun, ElementsOf, BodySwept, FormatSwept, StandsAt};
 
 // Behind at most three digits.
 fn behind_digits(m: &[u8], at: usize) -> usize
@@ -90,7 +89,7 @@ fn sweep_pieces(
     before: usize,
     notes: &mut [u16],
 ) -> Passed
-    requires { ⌜ (Framed (now m) × (start < length (now m))) × ((ElementsOf k f × (w .most ≤ mostRows)) × Noted (now m) (w .from) (now notes) before (plainRow (now m) Stage.Piece f start)) ⌝ }
+    requires { ⌜ ElementsOf k f × StandsAt (now m) w start before (now notes) (plainRow (now m) Stage.Piece f start) ⌝ }
     ensures { λ r. ⌜ IfAny (r .next) (BodySwept (now (m .entry)) (w .from) k start before r (now (notes .exit))) ⌝ }
 {
     let most = w.most;
@@ -134,7 +133,7 @@ pub(crate) fn sweep_elements(
     rows: usize,
     notes: &mut [u16],
 ) -> Passed
-    requires { ⌜ (Framed (now m) × (at < length (now m))) × ((ElementsOf k f × (w .most ≤ mostRows)) × Noted (now m) (w .from) (now notes) rows (opening (now m) f at (shapeOf (ruleOf edition2005 f)))) ⌝ }
+    requires { ⌜ ElementsOf k f × StandsAt (now m) w at rows (now notes) (opening (now m) f at (shapeOf (ruleOf edition2005 f))) ⌝ }
     ensures { λ r. ⌜ IfAny (r .next) (FormatSwept (now (m .entry)) (w .from) f at rows r (now (notes .exit))) ⌝ }
 {
     if m[at] != GS {

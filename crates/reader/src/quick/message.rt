@@ -21,7 +21,7 @@ ghost use Rattle.label.specs.Limits.{mostRows};
 ghost use Rattle.label.specs.Formats.{edition2005, ruleOf};
 ghost use Rattle.walk.specs.Shapes.{shapeOf};
 ghost use Rattle.walk.specs.Cursors.{indicatorAt, opening};
-ghost use Rattle.reader.specs.Quick.{Framed, IfAny, Noted, FormatSwept, EnvelopeSwept, IfSo, Headed, SaysNothing, EndsSo, SweptSo};
+ghost use Rattle.reader.specs.Quick.{IfAny, FormatSwept, EnvelopeSwept, IfSo, Headed, SaysNothing, EndsSo, SweptSo, StandsAt};
 
 // A good message with its counts, one with more rows than were asked for, or one that is left.
 pub enum Swept {
@@ -32,7 +32,7 @@ pub enum Swept {
 
 // The format with a number, behind its indicator.
 fn sweep_format(m: &[u8], w: Wanted, f: u32, at: usize, rows: usize, notes: &mut [u16]) -> Passed
-    requires { ⌜ (Framed (now m) × (at < length (now m))) × ((w .most ≤ mostRows) × Noted (now m) (w .from) (now notes) rows (opening (now m) f at (shapeOf (ruleOf edition2005 f)))) ⌝ }
+    requires { ⌜ StandsAt (now m) w at rows (now notes) (opening (now m) f at (shapeOf (ruleOf edition2005 f))) ⌝ }
     ensures { λ r. ⌜ IfAny (r .next) (FormatSwept (now (m .entry)) (w .from) f at rows r (now (notes .exit))) ⌝ }
 {
     match f {
@@ -49,7 +49,7 @@ fn sweep_format(m: &[u8], w: Wanted, f: u32, at: usize, rows: usize, notes: &mut
 
 // An envelope: its indicator, 00 to 09, and its format.
 fn sweep_envelope(m: &[u8], w: Wanted, at: usize, rows: usize, notes: &mut [u16]) -> Passed
-    requires { ⌜ (Framed (now m) × (at < length (now m))) × ((w .most ≤ mostRows) × Noted (now m) (w .from) (now notes) rows (indicatorAt (now m) at)) ⌝ }
+    requires { ⌜ StandsAt (now m) w at rows (now notes) (indicatorAt (now m) at) ⌝ }
     ensures { λ r. ⌜ IfAny (r .next) (EnvelopeSwept (now (m .entry)) (w .from) at rows r (now (notes .exit))) ⌝ }
 {
     if m.len() - at < 3 {

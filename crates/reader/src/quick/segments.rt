@@ -15,11 +15,10 @@ use walk::standing_at;
 ghost use mathlib.Core.Path.{_≡_};
 ghost use Prim.Native.Nat.{_≤_, _<_};
 ghost use lib.ListN.{length};
-ghost use Rattle.label.specs.Limits.{mostRows};
 ghost use Rattle.label.specs.Formats.{edition2005, ruleOf};
 ghost use Rattle.walk.specs.Shapes.{shapeOf};
 ghost use Rattle.walk.specs.Cursors.{plainRow, opening, afterSubElement};
-ghost use Rattle.reader.specs.Quick.{Framed, IfAny, Noted, BodySwept, FormatSwept};
+ghost use Rattle.reader.specs.Quick.{Framed, IfAny, BodySwept, FormatSwept, StandsAt};
 ghost use Rattle.reader.specs.Segments.{stageBehind, segmentsKind, TagTo, SegmentsDue, LaterSwept, SegmentSwept};
 
 // The end of a tag that has GS or FS behind it, or 0.
@@ -151,7 +150,7 @@ pub(crate) fn sweep_segments(
     rows: usize,
     notes: &mut [u16],
 ) -> Passed
-    requires { ⌜ (Framed (now m) × (at < length (now m))) × ((((3 ≤ f) × (f ≤ 4)) × (w .most ≤ mostRows)) × Noted (now m) (w .from) (now notes) rows (opening (now m) f at (shapeOf (ruleOf edition2005 f)))) ⌝ }
+    requires { ⌜ ((3 ≤ f) × (f ≤ 4)) × StandsAt (now m) w at rows (now notes) (opening (now m) f at (shapeOf (ruleOf edition2005 f))) ⌝ }
     ensures { λ r. ⌜ IfAny (r .next) (FormatSwept (now (m .entry)) (w .from) f at rows r (now (notes .exit))) ⌝ }
 {
     if m.len() - at < 10 {

@@ -7,17 +7,14 @@ use leaves::Class;
 use leaves::RS;
 use walk::Stage;
 use walk::standing_at;
-ghost use Prim.Native.Nat.{_≤_, _<_};
-ghost use lib.ListN.{length};
-ghost use Rattle.label.specs.Limits.{mostRows};
 ghost use Rattle.label.specs.Formats.{edition2005, ruleOf};
 ghost use Rattle.walk.specs.Shapes.{shapeOf};
 ghost use Rattle.walk.specs.Cursors.{opening};
-ghost use Rattle.reader.specs.Quick.{Framed, IfAny, Noted, FormatSwept};
+ghost use Rattle.reader.specs.Quick.{IfAny, FormatSwept, StandsAt};
 
 // 07: text up to an RS.
 pub(crate) fn sweep_text(m: &[u8], w: Wanted, at: usize, rows: usize, notes: &mut [u16]) -> Passed
-    requires { ⌜ (Framed (now m) × (at < length (now m))) × ((w .most ≤ mostRows) × Noted (now m) (w .from) (now notes) rows (opening (now m) 7 at (shapeOf (ruleOf edition2005 7)))) ⌝ }
+    requires { ⌜ StandsAt (now m) w at rows (now notes) (opening (now m) 7 at (shapeOf (ruleOf edition2005 7))) ⌝ }
     ensures { λ r. ⌜ IfAny (r .next) (FormatSwept (now (m .entry)) (w .from) 7 at rows r (now (notes .exit))) ⌝ }
 {
     if w.most <= rows {

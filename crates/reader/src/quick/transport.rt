@@ -13,14 +13,13 @@ use walk::Stage;
 use walk::standing_at;
 ghost use mathlib.Core.Path.{_≡_};
 ghost use mathlib.Core.Bool.{true};
-ghost use Prim.Native.Nat.{_≤_, _<_};
+ghost use Prim.Native.Nat.{_<_};
 ghost use lib.ListN.{length};
-ghost use Rattle.label.specs.Limits.{mostRows};
 ghost use Rattle.label.specs.Formats.{edition2005, ruleOf};
 ghost use Rattle.bodies.specs.Kinds.{pieceTest};
 ghost use Rattle.walk.specs.Shapes.{shapeOf};
 ghost use Rattle.walk.specs.Cursors.{plainRow, opening};
-ghost use Rattle.reader.specs.Quick.{Framed, PassesTo, IfAny, IfSo, Noted, BodySwept, FormatSwept};
+ghost use Rattle.reader.specs.Quick.{Framed, PassesTo, IfAny, IfSo, BodySwept, FormatSwept, StandsAt};
 ghost use Rattle.reader.specs.Transport.{FieldsOf, LastRight, fitsIn, sizeFits};
 
 // Where the format's indicator ends: 01 is allowed only as the first envelope.
@@ -95,7 +94,7 @@ fn sweep_fields(
     before: usize,
     notes: &mut [u16],
 ) -> Passed
-    requires { ⌜ (Framed (now m) × (start < length (now m))) × ((FieldsOf k limit × (w .most ≤ mostRows)) × Noted (now m) (w .from) (now notes) before (plainRow (now m) Stage.Piece 1 start)) ⌝ }
+    requires { ⌜ FieldsOf k limit × StandsAt (now m) w start before (now notes) (plainRow (now m) Stage.Piece 1 start) ⌝ }
     ensures { λ r. ⌜ IfAny (r .next) (BodySwept (now (m .entry)) (w .from) k start before r (now (notes .exit))) ⌝ }
 {
     let most = w.most;
@@ -133,7 +132,7 @@ pub(crate) fn sweep_transport(
     rows: usize,
     notes: &mut [u16],
 ) -> Passed
-    requires { ⌜ (Framed (now m) × (at < length (now m))) × ((w .most ≤ mostRows) × Noted (now m) (w .from) (now notes) rows (opening (now m) 1 at (shapeOf (ruleOf edition2005 1)))) ⌝ }
+    requires { ⌜ StandsAt (now m) w at rows (now notes) (opening (now m) 1 at (shapeOf (ruleOf edition2005 1))) ⌝ }
     ensures { λ r. ⌜ IfAny (r .next) (FormatSwept (now (m .entry)) (w .from) 1 at rows r (now (notes .exit))) ⌝ }
 {
     if (at != FIRST) | (w.most <= rows) | (m.len() < 10) {

@@ -38,7 +38,7 @@ sweep-value-requires : tie.Need-sweep-value-requires
 sweep-value-requires c κs =
     let args = c .before .before .before .before .before .before .before .before .before .args in
     let pre = c .before .before .before .before .before .before .before .before .before .pre in
-    (type-due (args .m .now) (args .w .from) (args .at) (args .rows) (pre .0 .0) (pre .0 .1) (c .before .if3 .left) (args .notes .now) (omega arith) (pre .1 .1), λ b is. is)
+    (type-due (args .m .now) (args .w .from) (args .at) (args .rows) (pre .framed) (pre .inside) (c .before .if3 .left) (args .notes .now) (omega arith) (pre .noted), λ b is. is)
 
 given-up-requires-4 : tie.Need-given-up-requires-4
 given-up-requires-4 c κs = search needs
@@ -58,7 +58,7 @@ sweep-compression-requires c κs =
     let pre = c .before .before .before .before .before .before .before .before .before .before .before .before .before .before .pre in
     let value = c .before .before .before .before .sweep-value in
     value-due (args .m .now) (args .w .from) typeValue (args .at + 1) (args .rows) (value .result) (value .last .1 .1 .1 .1 .1 .0) CompressionValue 3 (λ end. behind-type (args .m .now) (args .at + 1) end (value .result))
-    (pre .0 .0) (omega arith) (value .ensures (omega (arith, c .before .if4 .left)))
+    (pre .framed) (omega arith) (value .ensures (omega (arith, c .before .if4 .left)))
 
 same-length-2 : tie.Need-same-length-2
 same-length-2 c = search needs
@@ -70,7 +70,7 @@ returns-5 c =
     let value = c .before .before .before .before .before .before .before .sweep-value in
     let rest = c .before .before .sweep-compression in
     λ some.
-    counted-swept (args .m .now) (args .w .from) (args .at) (args .rows) (pre .0 .0) (pre .0 .1) (c .before .before .before .before .before .before .before .before .before .if3 .left) (value .result) (value .last .1 .1 .1 .1 .1 .0) (rest .last .1 .1 .1 .1 .0) (rest .result)
+    counted-swept (args .m .now) (args .w .from) (args .at) (args .rows) (pre .framed) (pre .inside) (c .before .before .before .before .before .before .before .before .before .if3 .left) (value .result) (value .last .1 .1 .1 .1 .1 .0) (rest .last .1 .1 .1 .1 .0) (rest .result)
     (value .ensures (omega (arith, c .before .before .before .before .if4 .left))) (rest .ensures some)
 
 pub sweep-counted-spec : {M : Type 1} → statement M

@@ -23,8 +23,15 @@ sweep-pieces-requires : tie.Need-sweep-pieces-requires
 sweep-pieces-requires c κs =
     let args = c .before .before .before .before .before .args in
     let pre = c .before .before .before .before .before .pre in
-    let gs = c .before .if1 .left in
-    ((pre .0 .0, byte-behind (args .m .now) (pre .0 .0) (args .at) (pre .0 .1) GS gs (λ e. omega arith)), (pre .1 .0, elements-due (args .m .now) (args .w .from) (args .at) (args .rows) (pre .0 .1) gs (args .k) (args .f) (pre .1 .0 .0) (args .notes .now) (pre .1 .1)))
+    let gs = c .before .if1 .left in (
+      pre .0,
+      record {
+        framed = pre .1 .framed;
+        inside = byte-behind (args .m .now) (pre .1 .framed) (args .at) (pre .1 .inside) GS gs (λ e. omega arith);
+        few = pre .1 .few;
+        noted = elements-due (args .m .now) (args .w .from) (args .at) (args .rows) (pre .1 .inside) gs (args .k) (args .f) (pre .0) (args .notes .now) (pre .1 .noted);
+      },
+    )
 
 same-length : tie.Need-same-length
 same-length c = search needs
@@ -34,7 +41,7 @@ returns-2 c =
     let args = c .before .before .before .before .before .before .before .before .args in
     let pre = c .before .before .before .before .before .before .before .before .pre in
     let body = c .before .before .sweep-pieces in
-    λ some. elements-swept (args .m .now) (args .w .from) (args .at) (args .rows) (pre .0 .1) (c .before .before .before .before .if1 .left) (args .k) (args .f) (pre .1 .0 .0) (body .result) (body .last .1 .1 .1 .1 .1 .1 .0) (body .ensures some)
+    λ some. elements-swept (args .m .now) (args .w .from) (args .at) (args .rows) (pre .1 .inside) (c .before .before .before .before .if1 .left) (args .k) (args .f) (pre .0) (body .result) (body .last .1 .1 .1 .1 .1 .1 .0) (body .ensures some)
 
 pub sweep-elements-spec : {M : Type 1} → statement M
 sweep-elements-spec =

@@ -21,7 +21,7 @@ loop-holds : tie.Need-loop-holds Inv-loop μ-loop
 loop-holds c =
     let args = c .before .before .args in
     let pre = c .before .before .pre in
-    (refl, sweeping-first (args .m .now) (args .w .from) (args .k) (args .f) (args .start) (args .before) (args .notes .now) (pre .0 .1) (pre .1 .1))
+    (refl, sweeping-first (args .m .now) (args .w .from) (args .k) (args .f) (args .start) (args .before) (args .notes .now) (pre .1 .inside) (pre .1 .noted))
 
 element-end-requires : tie.Need-element-end-requires Inv-loop μ-loop
 element-end-requires c κs = search needs
@@ -52,7 +52,7 @@ note-requires c κs =
     let end = c .before .before .before .element-end in
     let to = end .ensures (omega (arith, c .before .before .if1 .left)) in
     subst (λ (row : Cursor). Notable (at .rows) row) (sym (c .standing-at .ensures))
-    (run-notable (args .m .now) (args .f) (at .at) (end .result) (to .runs) Piece (at .rows) (pre .0 .0 .short) (elements-known (args .k) (args .f) (pre .1 .0 .0)) (omega (arith, pre .1 .0 .1, c .before .before .before .before .loop-test .taken)))
+    (run-notable (args .m .now) (args .f) (at .at) (end .result) (to .runs) Piece (at .rows) (pre .1 .framed .short) (elements-known (args .k) (args .f) (pre .0)) (omega (arith, pre .1 .few, c .before .before .before .before .loop-test .taken)))
 
 add-rows : tie.Need-add-rows Inv-loop μ-loop
 add-rows c = search needs
@@ -81,7 +81,7 @@ returns-2 c =
     let to = end .ensures (omega (arith, c .before .before .before .before .before .before .before .if1 .left)) in
     let noted = c .before .before .before .before .note in
     let row = c .before .before .before .before .before .standing-at in
-    λ some. sweeping-last (args .m .now) (pre .0 .0) (args .w .from) (args .k) (args .f) (args .start) (args .before) (pre .1 .0 .0) (at .notes) (noted .last .0) (at .at) (at .rows) (end .result) (at .inv .1) to (row .result) (row .ensures) (noted .ensures) (c .if2 .taken)
+    λ some. sweeping-last (args .m .now) (pre .1 .framed) (args .w .from) (args .k) (args .f) (args .start) (args .before) (pre .0) (at .notes) (noted .last .0) (at .at) (at .rows) (end .result) (at .inv .1) to (row .result) (row .ensures) (noted .ensures) (c .if2 .taken)
 
 given-up-requires-2 : tie.Need-given-up-requires-2 Inv-loop μ-loop
 given-up-requires-2 c κs = search needs
@@ -120,7 +120,7 @@ loop-again c =
     let to = end .ensures (omega (arith, c .before .before .before .before .before .before .before .before .if1 .left)) in
     let noted = c .before .before .before .before .before .note in
     let row = c .before .before .before .before .before .before .standing-at in
-    (search needs, sweeping-on (args .m .now) (pre .0 .0) (args .w .from) (args .k) (args .f) (args .start) (args .before) (pre .1 .0 .0) (at .notes) (noted .last .0) (at .at) (at .rows) (end .result) (at .inv .1) to (row .result) (row .ensures) (noted .ensures) (c .if3 .left))
+    (search needs, sweeping-on (args .m .now) (pre .1 .framed) (args .w .from) (args .k) (args .f) (args .start) (args .before) (pre .0) (at .notes) (noted .last .0) (at .at) (at .rows) (end .result) (at .inv .1) to (row .result) (row .ensures) (noted .ensures) (c .if3 .left))
 
 given-up-requires-3 : tie.Need-given-up-requires-3 Inv-loop μ-loop
 given-up-requires-3 c κs = search needs

@@ -29,7 +29,7 @@ loop-holds c =
 sweep-envelope-requires : tie.Need-sweep-envelope-requires Inv-loop μ-loop
 sweep-envelope-requires c κs =
     let going = c .before .loop .inv .1 in
-    ((going .headed .framed, going .inside), (c .before .before .before .before .before .before .pre, going .noted))
+    record { framed = going .headed .framed; inside = going .inside; few = c .before .before .before .before .before .before .pre; noted = going .noted }
 
 not-swept-requires : tie.Need-not-swept-requires Inv-loop μ-loop
 not-swept-requires c κs = search needs

@@ -41,7 +41,7 @@ sub-f c =
     let pre = c .before .before .before .before .before .before .before .before .pre in
     let long = c .before .before .before .before .before .if1 .left in
     let digits = c .if3 .left in
-    let fit = units-fit (args .m .now) (pre .0 .0) (args .w .from) (args .at) (args .rows) long digits in
+    let fit = units-fit (args .m .now) (pre .framed) (args .w .from) (args .at) (args .rows) long digits in
     fit .0
 
 cast-f : tie.Need-cast-f
@@ -50,7 +50,7 @@ cast-f c =
     let pre = c .before .before .before .before .before .before .before .before .pre in
     let long = c .before .before .before .before .before .if1 .left in
     let digits = c .if3 .left in
-    let fit = units-fit (args .m .now) (pre .0 .0) (args .w .from) (args .at) (args .rows) long digits in
+    let fit = units-fit (args .m .now) (pre .framed) (args .w .from) (args .at) (args .rows) long digits in
     let few = fit .1 in
     search needs
 
@@ -63,7 +63,7 @@ note-requires c κs =
     let pre = c .before .before .before .before .before .before .before .before .before .before .pre in
     let long = c .before .before .before .before .before .before .before .if1 .left in
     let digits = c .before .before .if3 .left in
-    indicator-notable (args .m .now) (pre .0 .0) (args .w .from) (args .at) (args .rows) long digits (c .standing-at .result) (c .standing-at .ensures) (omega (arith, pre .1 .0, c .before .before .before .before .before .if2 .left))
+    indicator-notable (args .m .now) (pre .framed) (args .w .from) (args .at) (args .rows) long digits (c .standing-at .result) (c .standing-at .ensures) (omega (arith, pre .few, c .before .before .before .before .before .if2 .left))
 
 add-sweep-format : tie.Need-add-sweep-format
 add-sweep-format c = search needs
@@ -79,7 +79,7 @@ sweep-format-requires c κs =
     let digits = c .before .before .before .before .before .before .if3 .left in
     let noted = c .before .before .before .note in
     let row = c .before .before .before .before .standing-at in
-    ((pre .0 .0, omega (arith, long)), (pre .1 .0, format-due (args .m .now) (pre .0 .0) (args .w .from) (args .at) (args .rows) long digits (args .notes .now) (noted .last .0) (row .result) (row .ensures) (pre .1 .1) (noted .ensures)))
+    record { framed = pre .framed; inside = omega (arith, long); few = pre .few; noted = format-due (args .m .now) (pre .framed) (args .w .from) (args .at) (args .rows) long digits (args .notes .now) (noted .last .0) (row .result) (row .ensures) (pre .noted) (noted .ensures) }
 
 same-length : tie.Need-same-length
 same-length c = search needs
@@ -91,7 +91,7 @@ returns-4 c =
     let long = c .before .before .before .before .before .before .before .before .before .before .before .before .before .before .if1 .left in
     let digits = c .before .before .before .before .before .before .before .before .before .if3 .left in
     let format = c .before .before .sweep-format in
-    λ some. envelope-swept (args .m .now) (pre .0 .0) (args .w .from) (args .at) (args .rows) long digits (format .result) (format .last .1 .1 .1 .1 .1 .0) (format .ensures some)
+    λ some. envelope-swept (args .m .now) (pre .framed) (args .w .from) (args .at) (args .rows) long digits (format .result) (format .last .1 .1 .1 .1 .1 .0) (format .ensures some)
 
 pub sweep-envelope-spec : {M : Type 1} → statement M
 sweep-envelope-spec =

@@ -10,43 +10,43 @@ sweep-transport-requires : tie.Need-sweep-transport-requires
 sweep-transport-requires c κs =
     let args = c .before .before .before .before .args in
     let pre = c .before .before .before .before .pre in
-    (pre .0, (pre .1 .0, due-as (args .m .now) (args .w .from) (args .at) (args .rows) (args .f) 1 (args .notes .now) (omega (arith, c .before .match .keys1)) (pre .1 .1)))
+    due-as (args .m .now) (args .w) (args .at) (args .rows) (args .f) 1 (args .notes .now) (omega (arith, c .before .match .keys1)) pre
 
 sweep-segments-requires : tie.Need-sweep-segments-requires
 sweep-segments-requires c κs =
     let args = c .before .before .before .before .args in
     let pre = c .before .before .before .before .pre in
-    (pre .0, (((omega arith, omega arith), pre .1 .0), due-as (args .m .now) (args .w .from) (args .at) (args .rows) (args .f) 3 (args .notes .now) (omega (arith, c .before .match .keys2)) (pre .1 .1)))
+    ((omega arith, omega arith), due-as (args .m .now) (args .w) (args .at) (args .rows) (args .f) 3 (args .notes .now) (omega (arith, c .before .match .keys2)) pre)
 
 sweep-segments-requires-2 : tie.Need-sweep-segments-requires-2
 sweep-segments-requires-2 c κs =
     let args = c .before .before .before .before .args in
     let pre = c .before .before .before .before .pre in
-    (pre .0, (((omega arith, omega arith), pre .1 .0), due-as (args .m .now) (args .w .from) (args .at) (args .rows) (args .f) 4 (args .notes .now) (omega (arith, c .before .match .keys3)) (pre .1 .1)))
+    ((omega arith, omega arith), due-as (args .m .now) (args .w) (args .at) (args .rows) (args .f) 4 (args .notes .now) (omega (arith, c .before .match .keys3)) pre)
 
 sweep-elements-requires : tie.Need-sweep-elements-requires
 sweep-elements-requires c κs =
     let args = c .before .before .before .before .args in
     let pre = c .before .before .before .before .pre in
-    (pre .0, ((refl, pre .1 .0), due-as (args .m .now) (args .w .from) (args .at) (args .rows) (args .f) 5 (args .notes .now) (omega (arith, c .before .match .keys4)) (pre .1 .1)))
+    (refl, due-as (args .m .now) (args .w) (args .at) (args .rows) (args .f) 5 (args .notes .now) (omega (arith, c .before .match .keys4)) pre)
 
 sweep-elements-requires-2 : tie.Need-sweep-elements-requires-2
 sweep-elements-requires-2 c κs =
     let args = c .before .before .before .before .args in
     let pre = c .before .before .before .before .pre in
-    (pre .0, ((refl, pre .1 .0), due-as (args .m .now) (args .w .from) (args .at) (args .rows) (args .f) 6 (args .notes .now) (omega (arith, c .before .match .keys5)) (pre .1 .1)))
+    (refl, due-as (args .m .now) (args .w) (args .at) (args .rows) (args .f) 6 (args .notes .now) (omega (arith, c .before .match .keys5)) pre)
 
 sweep-text-requires : tie.Need-sweep-text-requires
 sweep-text-requires c κs =
     let args = c .before .before .before .before .args in
     let pre = c .before .before .before .before .pre in
-    (pre .0, (pre .1 .0, due-as (args .m .now) (args .w .from) (args .at) (args .rows) (args .f) 7 (args .notes .now) (omega (arith, c .before .match .keys6)) (pre .1 .1)))
+    due-as (args .m .now) (args .w) (args .at) (args .rows) (args .f) 7 (args .notes .now) (omega (arith, c .before .match .keys6)) pre
 
 sweep-counted-requires : tie.Need-sweep-counted-requires
 sweep-counted-requires c κs =
     let args = c .before .before .before .before .args in
     let pre = c .before .before .before .before .pre in
-    (pre .0, (pre .1 .0, due-as (args .m .now) (args .w .from) (args .at) (args .rows) (args .f) 9 (args .notes .now) (omega (arith, c .before .match .keys7)) (pre .1 .1)))
+    due-as (args .m .now) (args .w) (args .at) (args .rows) (args .f) 9 (args .notes .now) (omega (arith, c .before .match .keys7)) pre
 
 given-up-requires : tie.Need-given-up-requires
 given-up-requires c κs = search needs
@@ -58,7 +58,7 @@ returns : tie.Need-returns
 returns c =
     let args = c .before .before .before .before .before .before .before .args in
     let format = c .before .before .sweep-transport in
-    λ some. swept-as (args .m .now) (args .w .from) (args .at) (args .rows) (args .f) 1 (format .last .1 .1 .1 .1 .0) (omega (arith, c .before .before .before .before .match .keys1)) (format .result) (format .ensures some)
+    λ some. swept-as (args .m .now) (args .w) (args .at) (args .rows) (args .f) 1 (format .last .1 .1 .1 .1 .0) (omega (arith, c .before .before .before .before .match .keys1)) (format .result) (format .ensures some)
 
 same-length-2 : tie.Need-same-length-2
 same-length-2 c = search needs
@@ -67,7 +67,7 @@ returns-2 : tie.Need-returns-2
 returns-2 c =
     let args = c .before .before .before .before .before .before .before .args in
     let format = c .before .before .sweep-segments in
-    λ some. swept-as (args .m .now) (args .w .from) (args .at) (args .rows) (args .f) 3 (format .last .1 .1 .1 .1 .1 .0) (omega (arith, c .before .before .before .before .match .keys2)) (format .result) (format .ensures some)
+    λ some. swept-as (args .m .now) (args .w) (args .at) (args .rows) (args .f) 3 (format .last .1 .1 .1 .1 .1 .0) (omega (arith, c .before .before .before .before .match .keys2)) (format .result) (format .ensures some)
 
 same-length-3 : tie.Need-same-length-3
 same-length-3 c = search needs
@@ -76,7 +76,7 @@ returns-3 : tie.Need-returns-3
 returns-3 c =
     let args = c .before .before .before .before .before .before .before .args in
     let format = c .before .before .sweep-segments2 in
-    λ some. swept-as (args .m .now) (args .w .from) (args .at) (args .rows) (args .f) 4 (format .last .1 .1 .1 .1 .1 .0) (omega (arith, c .before .before .before .before .match .keys3)) (format .result) (format .ensures some)
+    λ some. swept-as (args .m .now) (args .w) (args .at) (args .rows) (args .f) 4 (format .last .1 .1 .1 .1 .1 .0) (omega (arith, c .before .before .before .before .match .keys3)) (format .result) (format .ensures some)
 
 same-length-4 : tie.Need-same-length-4
 same-length-4 c = search needs
@@ -85,7 +85,7 @@ returns-4 : tie.Need-returns-4
 returns-4 c =
     let args = c .before .before .before .before .before .before .before .args in
     let format = c .before .before .sweep-elements in
-    λ some. swept-as (args .m .now) (args .w .from) (args .at) (args .rows) (args .f) 5 (format .last .1 .1 .1 .1 .1 .1 .0) (omega (arith, c .before .before .before .before .match .keys4)) (format .result) (format .ensures some)
+    λ some. swept-as (args .m .now) (args .w) (args .at) (args .rows) (args .f) 5 (format .last .1 .1 .1 .1 .1 .1 .0) (omega (arith, c .before .before .before .before .match .keys4)) (format .result) (format .ensures some)
 
 same-length-5 : tie.Need-same-length-5
 same-length-5 c = search needs
@@ -94,7 +94,7 @@ returns-5 : tie.Need-returns-5
 returns-5 c =
     let args = c .before .before .before .before .before .before .before .args in
     let format = c .before .before .sweep-elements2 in
-    λ some. swept-as (args .m .now) (args .w .from) (args .at) (args .rows) (args .f) 6 (format .last .1 .1 .1 .1 .1 .1 .0) (omega (arith, c .before .before .before .before .match .keys5)) (format .result) (format .ensures some)
+    λ some. swept-as (args .m .now) (args .w) (args .at) (args .rows) (args .f) 6 (format .last .1 .1 .1 .1 .1 .1 .0) (omega (arith, c .before .before .before .before .match .keys5)) (format .result) (format .ensures some)
 
 same-length-6 : tie.Need-same-length-6
 same-length-6 c = search needs
@@ -103,7 +103,7 @@ returns-6 : tie.Need-returns-6
 returns-6 c =
     let args = c .before .before .before .before .before .before .before .args in
     let format = c .before .before .sweep-text in
-    λ some. swept-as (args .m .now) (args .w .from) (args .at) (args .rows) (args .f) 7 (format .last .1 .1 .1 .1 .0) (omega (arith, c .before .before .before .before .match .keys6)) (format .result) (format .ensures some)
+    λ some. swept-as (args .m .now) (args .w) (args .at) (args .rows) (args .f) 7 (format .last .1 .1 .1 .1 .0) (omega (arith, c .before .before .before .before .match .keys6)) (format .result) (format .ensures some)
 
 same-length-7 : tie.Need-same-length-7
 same-length-7 c = search needs
@@ -112,7 +112,7 @@ returns-7 : tie.Need-returns-7
 returns-7 c =
     let args = c .before .before .before .before .before .before .before .args in
     let format = c .before .before .sweep-counted in
-    λ some. swept-as (args .m .now) (args .w .from) (args .at) (args .rows) (args .f) 9 (format .last .1 .1 .1 .1 .0) (omega (arith, c .before .before .before .before .match .keys7)) (format .result) (format .ensures some)
+    λ some. swept-as (args .m .now) (args .w) (args .at) (args .rows) (args .f) 9 (format .last .1 .1 .1 .1 .0) (omega (arith, c .before .before .before .before .match .keys7)) (format .result) (format .ensures some)
 
 returns-8 : tie.Need-returns-8
 returns-8 c = λ some. absurd (omega (arith, c .given-up .ensures))

@@ -80,7 +80,7 @@ note-requires c κs =
     let args = c .before .before .before .before .before .before .before .before .before .before .before .before .before .before .args in
     let pre = c .before .before .before .before .before .before .before .before .before .before .before .before .before .before .pre in
     subst (λ (row : Cursor). Notable (args .rows) row) (sym (c .standing-at .ensures))
-    (record { few = omega (arith, pre .1 .0 .1, c .before .before .before .before .before .before .before .before .before .if2 .left); inside = omega (arith, pre .0 .0 .short, pre .0 .1, c .before .before .before .before .before .before .before .before .before .before .before .if1 .left); known = omega (arith, pre .1 .0 .0 .1) })
+    (record { few = omega (arith, pre .1 .few, c .before .before .before .before .before .before .before .before .before .if2 .left); inside = omega (arith, pre .1 .framed .short, pre .1 .inside, c .before .before .before .before .before .before .before .before .before .before .before .if1 .left); known = omega (arith, pre .0 .1) })
 
 add-sweep-body : tie.Need-add-sweep-body
 add-sweep-body c = search needs
@@ -96,11 +96,11 @@ sweep-body-requires c κs =
     let row = c .before .before .before .before .standing-at in
     let long = c .before .before .before .before .before .before .before .before .before .before .before .before .before .before .before .if1 .left in
     record {
-      framed = pre .0 .0;
+      framed = pre .1 .framed;
       inside = omega (arith, long);
-      known = omega (arith, pre .1 .0 .0 .1);
-      few = pre .1 .0 .1;
-      noted = release-noted (args .m .now) (args .f) (args .at) (pre .1 .0 .0 .0) (pre .1 .0 .0 .1) (args .w .from) (args .rows) (args .notes .now) (noted .last .0) (row .result) (omega (arith, long)) (row .ensures) (noted .ensures) (pre .1 .1);
+      known = omega (arith, pre .0 .1);
+      few = pre .1 .few;
+      noted = release-noted (args .m .now) (args .f) (args .at) (pre .0 .0) (pre .0 .1) (args .w .from) (args .rows) (args .notes .now) (noted .last .0) (row .result) (omega (arith, long)) (row .ensures) (noted .ensures) (pre .1 .noted);
     }
 
 same-length : tie.Need-same-length
@@ -114,7 +114,7 @@ returns-5 c =
     let body = c .before .before .sweep-body in
     let six : args .at + 6 - args .at ≡ 6 = omega arith in
     λ some.
-    segments-swept (args .m .now) (args .f) (args .at) (pre .1 .0 .0 .0) (pre .1 .0 .0 .1) (args .w .from) (args .rows) (body .result) (body .last .1 .1 .1 .1 .1 .0) (omega (arith, long))
+    segments-swept (args .m .now) (args .f) (args .at) (pre .0 .0) (pre .0 .1) (args .w .from) (args .rows) (body .result) (body .last .1 .1 .1 .1 .1 .0) (omega (arith, long))
     (sym (ap (λ n. every capitalOrDigit (take n (drop (args .at) (args .m .now)))) six) ∙ sym (c .before .before .before .before .before .before .before .before .before .before .before .before .before .before .all-in .ensures) ∙ not-false (c .before .before .before .before .before .before .before .before .before .before .before .before .before .before .all-in .result) (c .before .before .before .before .before .before .before .before .before .before .before .before .before .if3 .left)) (c .before .before .before .before .before .before .before .before .before .if4 .left) (body .ensures some)
 
 pub sweep-segments-spec : {M : Type 1} → statement M

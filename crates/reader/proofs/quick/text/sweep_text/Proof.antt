@@ -51,7 +51,7 @@ note-requires c κs =
     let args = c .before .before .before .before .before .before .before .before .before .before .before .args in
     let pre = c .before .before .before .before .before .before .before .before .before .before .before .pre in
     let end = c .before .before .before .before .before .before .find-far in
-    text-notable (args .m .now) (pre .0 .0) (args .w .from) (args .at) (args .rows) (end .result) (pre .0 .1) (end .ensures) (c .before .before .before .before .before .if2 .left) (args .rows) (c .standing-at .result) (c .standing-at .ensures) (omega (arith, pre .1 .0, c .before .before .before .before .before .before .before .if1 .left))
+    text-notable (args .m .now) (pre .framed) (args .w .from) (args .at) (args .rows) (end .result) (pre .inside) (end .ensures) (c .before .before .before .before .before .if2 .left) (args .rows) (c .standing-at .result) (c .standing-at .ensures) (omega (arith, pre .few, c .before .before .before .before .before .before .before .if1 .left))
 
 add-t8 : tie.Need-add-t8
 add-t8 c = search needs
@@ -70,7 +70,7 @@ returns-4 c =
     let noted = c .before .before .note in
     let row = c .before .before .before .standing-at in
     λ some.
-    text-swept (args .m .now) (pre .0 .0) (args .w .from) (args .at) (args .rows) (end .result) (pre .0 .1) (end .ensures) (c .before .before .before .before .before .before .before .before .if2 .left) (args .notes .now) (noted .last .0) (row .result) (sym (c .before .before .before .before .before .before .all-in .ensures) ∙ not-false _ (c .before .before .before .before .before .if3 .left)) (row .ensures) (pre .1 .1) (noted .ensures)
+    text-swept (args .m .now) (pre .framed) (args .w .from) (args .at) (args .rows) (end .result) (pre .inside) (end .ensures) (c .before .before .before .before .before .before .before .before .if2 .left) (args .notes .now) (noted .last .0) (row .result) (sym (c .before .before .before .before .before .before .all-in .ensures) ∙ not-false _ (c .before .before .before .before .before .if3 .left)) (row .ensures) (pre .noted) (noted .ensures)
 
 pub sweep-text-spec : {M : Type 1} → statement M
 sweep-text-spec =

@@ -22,7 +22,7 @@ loop-holds : tie.Need-loop-holds Inv-loop μ-loop
 loop-holds c =
     let args = c .before .before .args in
     let pre = c .before .before .pre in
-    (refl, fields-first (args .m .now) (args .w .from) (args .k) (args .limit) (args .start) (args .before) (args .notes .now) (pre .1 .0 .0) (pre .0 .1) (pre .1 .1))
+    (refl, fields-first (args .m .now) (args .w .from) (args .k) (args .limit) (args .start) (args .before) (args .notes .now) (pre .0) (pre .1 .inside) (pre .1 .noted))
 
 sub-field-end : tie.Need-sub-field-end Inv-loop μ-loop
 sub-field-end c =
@@ -58,7 +58,7 @@ note-requires c κs =
     let end = c .before .before .before .field-end in
     let to = end .ensures (omega (arith, c .before .before .if1 .left)) in
     subst (λ (row : Cursor). Notable (at .rows) row) (sym (c .standing-at .ensures))
-    (run-notable (args .m .now) 1 (at .at) (end .result) (to .runs) Piece (at .rows) (pre .0 .0 .short) (omega arith) (omega (arith, pre .1 .0 .1, c .before .before .before .before .loop-test .taken)))
+    (run-notable (args .m .now) 1 (at .at) (end .result) (to .runs) Piece (at .rows) (pre .1 .framed .short) (omega arith) (omega (arith, pre .1 .few, c .before .before .before .before .loop-test .taken)))
 
 add-rows : tie.Need-add-rows Inv-loop μ-loop
 add-rows c = search needs
@@ -97,7 +97,7 @@ returns-2 c =
     let row = c .before .before .before .before .before .before .standing-at in
     λ some.
     let right = c .behind-last .ensures some in
-    fields-last (args .m .now) (pre .0 .0) (args .w .from) (args .k) (args .limit) (args .start) (args .before) (at .notes) (noted .last .0) (at .at) (at .rows) (end .result) (at .inv .1) to (row .result) (row .ensures) (noted .ensures) (c .before .if2 .taken) (c .behind-last .result) (right .0) (right .1)
+    fields-last (args .m .now) (pre .1 .framed) (args .w .from) (args .k) (args .limit) (args .start) (args .before) (at .notes) (noted .last .0) (at .at) (at .rows) (end .result) (at .inv .1) to (row .result) (row .ensures) (noted .ensures) (c .before .if2 .taken) (c .behind-last .result) (right .0) (right .1)
 
 given-up-requires-2 : tie.Need-given-up-requires-2 Inv-loop μ-loop
 given-up-requires-2 c κs = search needs
@@ -130,7 +130,7 @@ loop-again c =
     let to = end .ensures (omega (arith, c .before .before .before .before .before .before .before .before .if1 .left)) in
     let noted = c .before .before .before .before .before .note in
     let row = c .before .before .before .before .before .before .standing-at in
-    (search needs, fields-on (args .m .now) (pre .0 .0) (args .w .from) (args .k) (args .limit) (args .start) (args .before) (at .notes) (noted .last .0) (at .at) (at .rows) (end .result) (at .inv .1) to (row .result) (row .ensures) (noted .ensures) (c .if3 .left))
+    (search needs, fields-on (args .m .now) (pre .1 .framed) (args .w .from) (args .k) (args .limit) (args .start) (args .before) (at .notes) (noted .last .0) (at .at) (at .rows) (end .result) (at .inv .1) to (row .result) (row .ensures) (noted .ensures) (c .if3 .left))
 
 given-up-requires-3 : tie.Need-given-up-requires-3 Inv-loop μ-loop
 given-up-requires-3 c κs = search needs

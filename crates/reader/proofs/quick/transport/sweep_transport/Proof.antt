@@ -55,7 +55,7 @@ note-requires c κs =
     let args = c .before .before .before .before .before .before .before .before .before .before .args in
     let pre = c .before .before .before .before .before .before .before .before .before .before .pre in
     let ready = begins (args .m .now) (args .at) (args .rows) (args .w .most) (c .before .before .before .before .before .before .if1 .left) in
-    version-notable (args .m .now) (args .at) (args .rows) (args .w .most) ready (c .standing-at .result) (c .standing-at .ensures) (pre .0 .0 .short) (pre .1 .0)
+    version-notable (args .m .now) (args .at) (args .rows) (args .w .most) ready (c .standing-at .result) (c .standing-at .ensures) (pre .framed .short) (pre .few)
 
 add-sweep-fields : tie.Need-add-sweep-fields
 add-sweep-fields c = search needs
@@ -74,8 +74,15 @@ sweep-fields-requires c κs =
     let pre = c .before .before .before .before .before .before .before .before .before .before .before .before .before .before .before .pre in
     let ready = begins (args .m .now) (args .at) (args .rows) (args .w .most) (c .before .before .before .before .before .before .before .before .before .before .before .if1 .left) in
     let row = c .before .before .before .before .before .standing-at in
-    let noted = c .before .before .before .before .note in
-    ((pre .0 .0, fields-inside (args .m .now) (args .at) (args .rows) (args .w .most) ready), ((refl, pre .1 .0), version-noted (args .m .now) (args .at) (args .rows) (args .w .most) ready (row .result) (row .ensures) (args .w .from) (args .notes .now) (noted .last .0) (noted .ensures) (pre .1 .1)))
+    let noted = c .before .before .before .before .note in (
+      refl,
+      record {
+        framed = pre .framed;
+        inside = fields-inside (args .m .now) (args .at) (args .rows) (args .w .most) ready;
+        few = pre .few;
+        noted = version-noted (args .m .now) (args .at) (args .rows) (args .w .most) ready (row .result) (row .ensures) (args .w .from) (args .notes .now) (noted .last .0) (noted .ensures) (pre .noted);
+      },
+    )
 
 same-length : tie.Need-same-length
 same-length c = search needs
@@ -105,8 +112,15 @@ sweep-fields-requires-2 c κs =
     let pre = c .before .before .before .before .before .before .before .before .before .before .before .before .before .before .before .before .pre in
     let ready = begins (args .m .now) (args .at) (args .rows) (args .w .most) (c .before .before .before .before .before .before .before .before .before .before .before .before .if1 .left) in
     let row = c .before .before .before .before .before .before .standing-at in
-    let noted = c .before .before .before .before .before .note in
-    ((pre .0 .0, fields-inside (args .m .now) (args .at) (args .rows) (args .w .most) ready), ((refl, pre .1 .0), version-noted (args .m .now) (args .at) (args .rows) (args .w .most) ready (row .result) (row .ensures) (args .w .from) (args .notes .now) (noted .last .0) (noted .ensures) (pre .1 .1)))
+    let noted = c .before .before .before .before .before .note in (
+      refl,
+      record {
+        framed = pre .framed;
+        inside = fields-inside (args .m .now) (args .at) (args .rows) (args .w .most) ready;
+        few = pre .few;
+        noted = version-noted (args .m .now) (args .at) (args .rows) (args .w .most) ready (row .result) (row .ensures) (args .w .from) (args .notes .now) (noted .last .0) (noted .ensures) (pre .noted);
+      },
+    )
 
 same-length-2 : tie.Need-same-length-2
 same-length-2 c = search needs
