@@ -75,7 +75,7 @@ everyFrom test i (p ∷ ps) = test i p && everyFrom test (i + 1) ps
 
 -- fields by how many separators there are, each one's test, and whether the last is empty
 abbrev pub fieldsOf : (ℕ → Bytes → Bool) → ℕ → List Bytes → Bytes → Bool
-fieldsOf test most ps body = leb 4 (tallyOf GS body) && ltb (tallyOf GS body) most && everyFrom test 0 ps && (eqb (tallyOf GS body) 4 || not (lastIsEmpty (pieces GS body)))
+fieldsOf test most ps body = leb (leastFields - 1) (tallyOf GS body) && ltb (tallyOf GS body) most && everyFrom test 0 ps && (eqb (tallyOf GS body) (leastFields - 1) || not (lastIsEmpty (pieces GS body)))
 
 -- segments by the last byte, and each one's test
 abbrev pub segmentsOf : (ℕ → Bytes → Bool) → ℕ → Bytes → Bool

@@ -1,4 +1,5 @@
 // Transport fields of 01. Field No. i + 1 is field i here; version 02 is row 0 of the limits, version 96 row 1.
+use label::LEAST_FIELDS;
 use leaves::Class;
 ghost use mathlib.Core.Path.{_≡_};
 ghost use lib.ListN.{getD};
@@ -59,5 +60,5 @@ pub(crate) fn field_holds(row: usize, i: usize, s: &[u8]) -> bool
     let limit = label::limits_of(row, i);
     let fits = (limit.0 as usize <= s.len()) & (s.len() <= limit.1 as usize);
     let right = field_bytes(i, s);
-    (fits & right) | ((5 <= i) & (s.len() == 0))
+    (fits & right) | ((LEAST_FIELDS <= i) & (s.len() == 0))
 }

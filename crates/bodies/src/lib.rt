@@ -4,6 +4,9 @@ mod elements;
 mod fields;
 mod segments;
 
+use label::LEAST_FIELDS;
+use label::MOST_FIELDS_02;
+use label::MOST_FIELDS_96;
 use leaves::Class;
 use leaves::FS;
 use leaves::GS;
@@ -12,6 +15,9 @@ ghost use mathlib.Core.Path.{_≡_};
 ghost use Rattle.label.specs.Pieces.{pieces, lastIsEmpty};
 ghost use Rattle.leaves.specs.Classes.{classOf};
 ghost use Rattle.bodies.specs.Kinds.{permittedOf, rulesOf, rowsOfBody, separatorOf, pieceTest, everyFrom, fieldsOf, segmentsOf};
+
+// A separator less than there are pieces.
+const LEAST_SEPARATORS: usize = LEAST_FIELDS - 1;
 
 // A body that runs to an RS, by its format, and for 01 its version.
 pub enum Kind {
@@ -104,7 +110,7 @@ fn fields_hold(k: Kind, most: usize, body: &[u8]) -> bool
     let gs = leaves::tally(body, GS);
     let all = pieces_hold(k, body);
     let ends = last_empty(body, GS);
-    (4 <= gs) & (gs < most) & all & ((gs == 4) | !ends)
+    (LEAST_SEPARATORS <= gs) & (gs < most) & all & ((gs == LEAST_SEPARATORS) | !ends)
 }
 
 // Segments: one or more, each ended by FS, each with its tag.
@@ -126,8 +132,8 @@ pub fn rules_hold(k: Kind, body: &[u8]) -> bool
     ensures { λ r. ⌜ r ≡ rulesOf k (now (body .entry)) ⌝ }
 {
     match k {
-        Kind::Fields02 => fields_hold(k, 15, body),
-        Kind::Fields96 => fields_hold(k, 14, body),
+        Kind::Fields02 => fields_hold(k, MOST_FIELDS_02, body),
+        Kind::Fields96 => fields_hold(k, MOST_FIELDS_96, body),
         Kind::Segments03 => segments_hold(k, body),
         Kind::Segments04 => segments_hold(k, body),
         Kind::Elements05 => pieces_hold(k, body),

@@ -1,4 +1,5 @@
 // Filling a table by the walk, for a message that has been judged exactly.
+use label::ROW;
 use walk::Cursor;
 ghost use Prim.Native.Nat.{_+_};
 ghost use mathlib.Core.Path.{_≡_};
@@ -32,7 +33,7 @@ pub(crate) fn fill(m: &[u8], rows: usize, table: &mut [u32])
     let mut c = walk::first(m);
     let mut i = 0;
     while i < rows {
-        put_row(table, 4 * i, c);
+        put_row(table, ROW * i, c);
         c = walk::advance(m, c);
         i += 1;
     }

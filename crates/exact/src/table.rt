@@ -1,5 +1,6 @@
 // Reading a message into a lent table: the whole message is judged first, and only then are its rows filled in.
 use crate::rows::fill;
+use label::ROW;
 use label::Reading;
 use label::Reason;
 use label::Refusal;
@@ -16,7 +17,7 @@ pub fn read_exactly(message: &[u8], table: &mut [u32]) -> Reading
     match judged {
         Reading::Accepted(counts) => {
             let rows = counts.rows;
-            if table.len() / 4 < rows {
+            if table.len() / ROW < rows {
                 return Reading::Refused(Refusal {
                     reason: Reason::NoRoom,
                     place: 0,

@@ -8,7 +8,7 @@ use lib.Dec.{ltb, eqb}
 use Rattle.label.specs.declared.Reason.the-variants.{BadFormatHeader, PayloadDoesNotFit, ByteNotPermitted, BodyBreaksRules}
 use Rattle.label.specs.Bytes.{Bytes, ascii, FS, GS, RS, US, plain, digit, capitalOrDigit, every}
 use Rattle.label.specs.Formats.{restByte}
-use Rattle.label.specs.Values.{releaseLength, value}
+use Rattle.label.specs.Values.{releaseLength, value, typeLength, compressionLength, countLength}
 use Rattle.label.specs.ReadMessage.{agreement}
 use Rattle.bodies.specs.declared.Kind.{Kind}
 use Rattle.bodies.specs.declared.Kind.the-variants.{Fields02, Fields96}
@@ -55,10 +55,10 @@ afterValue m end next = cond (ltb end (length m)) (next (end + 1)) (Refused BadF
 
 -- 09: count, compression, type, each and what follows
 abbrev pub countFound : Bytes → ℕ → Found
-countFound m at = afterValue m (valueEnd 1 15 digit m at) (payloadFound (value (take (valueEnd 1 15 digit m at - at) (drop at m))) m)
+countFound m at = afterValue m (valueEnd (countLength .0) (countLength .1) digit m at) (payloadFound (value (take (valueEnd (countLength .0) (countLength .1) digit m at - at) (drop at m))) m)
 
 abbrev pub compressionFound : Bytes → ℕ → Found
-compressionFound m at = afterValue m (valueEnd 0 30 plain m at) (countFound m)
+compressionFound m at = afterValue m (valueEnd (compressionLength .0) (compressionLength .1) plain m at) (countFound m)
 
 abbrev pub countedFound : Bytes → ℕ → Found
-countedFound m at = cond (beginsAt (GS ∷ []) m at) (afterValue m (valueEnd 1 30 plain m (at + 1)) (compressionFound m)) (Refused BadFormatHeader)
+countedFound m at = cond (beginsAt (GS ∷ []) m at) (afterValue m (valueEnd (typeLength .0) (typeLength .1) plain m (at + 1)) (compressionFound m)) (Refused BadFormatHeader)

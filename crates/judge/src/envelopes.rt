@@ -4,6 +4,7 @@ use crate::State;
 use crate::Turn;
 use crate::judge_envelope;
 use label::Counts;
+use label::HEADER_LENGTH;
 use label::Reading;
 use label::Reason;
 use label::Refusal;
@@ -14,6 +15,7 @@ ghost use Prim.Native.Nat.{_≤_};
 ghost use lib.ListN.{length, drop};
 ghost use Rattle.label.specs.ReadMessage.{unboundedWalk};
 ghost use Rattle.label.specs.Formats.{edition2005};
+ghost use Rattle.label.specs.Message.{header};
 ghost use Rattle.judge.specs.Shown.{tallied};
 ghost use Rattle.judge.specs.Turns.{Sound, TurnSo, boundaryTurn};
 
@@ -66,11 +68,11 @@ fn turn(m: &[u8], s: State) -> Turn
 
 // All envelopes from behind the header on.
 pub(crate) fn walk_envelopes(m: &[u8]) -> Reading
-    requires { ⌜ 4 ≤ length (now m) ⌝ }
-    ensures { λ r. ⌜ r ≡ tallied 0 0 (unboundedWalk edition2005 (now (m .entry)) true (drop 4 (now (m .entry)))) ⌝ }
+    requires { ⌜ length header ≤ length (now m) ⌝ }
+    ensures { λ r. ⌜ r ≡ tallied 0 0 (unboundedWalk edition2005 (now (m .entry)) true (drop (length header) (now (m .entry)))) ⌝ }
 {
     let mut s = State {
-        at: 4,
+        at: HEADER_LENGTH,
         first: true,
         envelopes: 0,
         rows: 0,

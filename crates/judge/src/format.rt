@@ -5,6 +5,13 @@ use crate::header::agree;
 use crate::header::digits_value;
 use crate::header::value_end;
 use bodies::Kind;
+use label::LEAST_COMPRESSION;
+use label::LEAST_COUNT;
+use label::LEAST_TYPE;
+use label::MOST_COMPRESSION;
+use label::MOST_COUNT;
+use label::MOST_TYPE;
+use label::RELEASE_LENGTH;
 use label::Reason;
 use leaves::Class;
 use leaves::RS;
@@ -46,10 +53,10 @@ pub(crate) fn judge_segments(m: &[u8], at: usize, k: Kind) -> Found
     requires { ⌜ at ≤ length (now m) ⌝ }
     ensures { λ r. ⌜ r ≡ segmentsFound k (now (m .entry)) at ⌝ }
 {
-    if m.len() - at < 6 {
+    if m.len() - at < RELEASE_LENGTH {
         return Found::Refused(Reason::BadFormatHeader);
     }
-    let after = at + 6;
+    let after = at + RELEASE_LENGTH;
     if !leaves::all_in(Class::CapitalOrDigit, &m[at..after]) {
         return Found::Refused(Reason::BadFormatHeader);
     }
@@ -90,7 +97,7 @@ fn judge_count(m: &[u8], at: usize) -> Found
     requires { ⌜ at ≤ length (now m) ⌝ }
     ensures { λ r. ⌜ r ≡ countFound (now (m .entry)) at ⌝ }
 {
-    let end = value_end(m, at, 1, 15, Class::Digit);
+    let end = value_end(m, at, LEAST_COUNT, MOST_COUNT, Class::Digit);
     if m.len() <= end {
         return Found::Refused(Reason::BadFormatHeader);
     }
@@ -103,7 +110,7 @@ fn judge_compression(m: &[u8], at: usize) -> Found
     requires { ⌜ at ≤ length (now m) ⌝ }
     ensures { λ r. ⌜ r ≡ compressionFound (now (m .entry)) at ⌝ }
 {
-    let end = value_end(m, at, 0, 30, Class::Plain);
+    let end = value_end(m, at, LEAST_COMPRESSION, MOST_COMPRESSION, Class::Plain);
     if m.len() <= end {
         return Found::Refused(Reason::BadFormatHeader);
     }
@@ -118,7 +125,7 @@ pub(crate) fn judge_counted(m: &[u8], at: usize) -> Found
     if agree(m, at, b"\x1D") != 1 {
         return Found::Refused(Reason::BadFormatHeader);
     }
-    let end = value_end(m, at + 1, 1, 30, Class::Plain);
+    let end = value_end(m, at + 1, LEAST_TYPE, MOST_TYPE, Class::Plain);
     if m.len() <= end {
         return Found::Refused(Reason::BadFormatHeader);
     }

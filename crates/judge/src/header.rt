@@ -4,7 +4,7 @@ use leaves::GS;
 ghost use mathlib.Core.Path.{_≡_};
 ghost use Prim.Native.Nat.{_-_, _≤_};
 ghost use lib.ListN.{length, drop};
-ghost use Rattle.label.specs.Values.{value};
+ghost use Rattle.label.specs.Values.{value, countLength};
 ghost use Rattle.label.specs.ReadMessage.{agreement};
 ghost use Rattle.leaves.specs.Classes.{classOf};
 ghost use Rattle.judge.specs.Headers.{decimalOf, indicatorOf, valueEnd};
@@ -80,9 +80,9 @@ pub(crate) fn value_end(m: &[u8], at: usize, least: usize, most: usize, k: Class
     m.len()
 }
 
-// The number that at most fifteen digits make.
+// The number that the digits of a count make.
 pub(crate) fn digits_value(s: &[u8]) -> usize
-    requires { ⌜ length (now s) ≤ 15 ⌝ }
+    requires { ⌜ length (now s) ≤ countLength .1 ⌝ }
     ensures { λ r. ⌜ r ≡ value (now (s .entry)) ⌝ }
 {
     let mut n = 0;

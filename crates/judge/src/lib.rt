@@ -5,6 +5,8 @@ mod format;
 mod header;
 
 use bodies::Kind;
+use label::HEADER;
+use label::HEADER_LENGTH;
 use label::LONGEST;
 use label::MOST_ROWS;
 use label::Reading;
@@ -106,8 +108,9 @@ pub fn judge(m: &[u8]) -> Reading
     if LONGEST < m.len() {
         return refusal(Reason::TooLong, LONGEST);
     }
-    let agreed = header::agree(m, 0, b"[)>\x1E");
-    if agreed < 4 {
+    let begin = HEADER;
+    let agreed = header::agree(m, 0, &begin);
+    if agreed < HEADER_LENGTH {
         return refusal(Reason::NoMessageHeader, agreed);
     }
     within_rows(envelopes::walk_envelopes(m))

@@ -2,6 +2,7 @@
 use Prim.Native.Nat.{ℕ, _+_, _-_, _*_}
 use mathlib.Core.Bool.{Bool, _&&_}
 use mathlib.Core.List.{[], _∷_}
+use Rattle.label.specs.declared.Limit.{Limit}
 use Rattle.label.specs.Bytes.{Bytes, ascii, plain, digit, capitalOrDigit, every}
 use Rattle.label.specs.Limits.{longAs, _to_}
 
@@ -20,17 +21,26 @@ releaseLength = 6
 unfoldable pub release : Bytes → Bool
 release bs = longAs (releaseLength to releaseLength) bs && every capitalOrDigit bs
 
--- 09: the type, 1 to 30 plain bytes (004, 4.2.11)
+-- 09: how long type, compression and count are (004, 4.2.11)
+abbrev pub typeLength : Limit
+typeLength = 1 to 30
+
+abbrev pub compressionLength : Limit
+compressionLength = 0 to 30
+
+abbrev pub countLength : Limit
+countLength = 1 to 15
+
+-- 09: the type and the compression, plain bytes
 unfoldable pub payloadType : Bytes → Bool
-payloadType bs = longAs (1 to 30) bs && every plain bs
+payloadType bs = longAs typeLength bs && every plain bs
 
--- 09: the compression, 0 to 30 plain bytes (004, 4.2.11)
 unfoldable pub compression : Bytes → Bool
-compression bs = longAs (0 to 30) bs && every plain bs
+compression bs = longAs compressionLength bs && every plain bs
 
--- 09: the count, 1 to 15 digits, leading zeros allowed (004, 4.2.11)
+-- 09: the count, digits, leading zeros allowed
 unfoldable pub count : Bytes → Bool
-count bs = longAs (1 to 15) bs && every digit bs
+count bs = longAs countLength bs && every digit bs
 
 -- the number that digits make behind those that make n
 abbrev pub valueAfter : ℕ → Bytes → ℕ

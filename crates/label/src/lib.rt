@@ -5,10 +5,42 @@ ghost use Rattle.label.specs.Limits.{limitOf};
 ghost use Rattle.label.specs.Answer.{number};
 ghost use Rattle.label.specs.Writing.{writeNumber};
 
-// The most bytes and the most rows in a message (01, Rows).
+// The most bytes and the most rows in a message, how many numbers a row is, and the length of a table with room for the most rows
+// (01, Rows).
 pub const LONGEST: usize = 4096;
 
 pub const MOST_ROWS: usize = 1024;
+
+pub const ROW: usize = 4;
+
+pub const TABLE: usize = ROW * MOST_ROWS;
+
+// `[)>` RS, in front of every message, and its length.
+pub const HEADER_LENGTH: usize = 4;
+
+pub const HEADER: [u8; HEADER_LENGTH] = [0x5B, 0x29, 0x3E, 0x1E];
+
+// How long the header values of 03, 04 and 09 are (01, Envelope rules).
+pub const RELEASE_LENGTH: usize = 6;
+
+pub const LEAST_TYPE: usize = 1;
+
+pub const MOST_TYPE: usize = 30;
+
+pub const LEAST_COMPRESSION: usize = 0;
+
+pub const MOST_COMPRESSION: usize = 30;
+
+pub const LEAST_COUNT: usize = 1;
+
+pub const MOST_COUNT: usize = 15;
+
+// How many fields format 01 has, at least and by its version at most (01, Transport fields).
+pub const LEAST_FIELDS: usize = 5;
+
+pub const MOST_FIELDS_02: usize = 15;
+
+pub const MOST_FIELDS_96: usize = 14;
 
 // Why a message is refused: 'Numbers for the receiving desk', in its order. `number` of specs/Answer has each one's number.
 pub enum Reason {
@@ -103,7 +135,7 @@ pub struct Limit(pub u8, pub u8);
 
 // 'Transport fields': a row for each version, 02 and then 96, with a pair for each field in its order. Version 96 has no
 // field 15.
-const LIMITS: [[Limit; 15]; 2] = [
+const LIMITS: [[Limit; MOST_FIELDS_02]; 2] = [
     [
         Limit(0, 11),
         Limit(3, 3),
@@ -147,7 +179,7 @@ pub fn limits_of(version: usize, field: usize) -> Limit
     if 2 <= version {
         return Limit(0, 0);
     }
-    if 15 <= field {
+    if MOST_FIELDS_02 <= field {
         return Limit(0, 0);
     }
     LIMITS[version][field]

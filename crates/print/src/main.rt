@@ -1,11 +1,15 @@
 // Prints the reading of the message on standard input, as document 01 has it under 'Cartons to try'. One byte more than a message
 // may have is enough to see that it is too long.
+use label::LONGEST;
+use label::TABLE;
 use libc::STDIN_FILENO;
 
+const TOO_LONG: usize = LONGEST + 1;
+
 fn main() {
-    let mut message = [0u8; 4097];
+    let mut message = [0u8; TOO_LONG];
     let length = io::read_full(STDIN_FILENO, &mut message);
-    let mut table = [0u32; 4096];
+    let mut table = [0u32; TABLE];
     let reading = reader::read(&message[..length], &mut table);
     report::print_reading(reading, &table);
 }

@@ -66,7 +66,7 @@ run-plain class narrow (b ∷ bs) stops = by (class b) refl stops (run-plain cla
 
 count-least : (n : ℕ) (bs : Bytes) → n ≤ countFrom n bs
 count-least n [] = omega arith
-count-least n (b ∷ bs) = by (digit b) (ltb n 10000) (count-least (10 * n + (b - 0x30)) bs) (count-least n bs)
+count-least n (b ∷ bs) = by (digit b) (ltb n longest) (count-least (10 * n + (b - 0x30)) bs) (count-least n bs)
   where
     by : (t s : Bool) → 10 * n + (b - 0x30) ≤ countFrom (10 * n + (b - 0x30)) bs → n ≤ countFrom n bs → n ≤ cond t (countFrom (cond s (10 * n + (b - 0x30)) n) bs) n
     by true true more same = omega arith
@@ -74,15 +74,15 @@ count-least n (b ∷ bs) = by (digit b) (ltb n 10000) (count-least (10 * n + (b 
     by false s more same = omega arith
 
 -- a number below 10,000 that digits are counted to is the number that they make
-count-made : (n : ℕ) (bs : Bytes) → countFrom n bs < 10000 → valueAfter n (take (runOf digit bs) bs) ≡ countFrom n bs
+count-made : (n : ℕ) (bs : Bytes) → countFrom n bs < longest → valueAfter n (take (runOf digit bs) bs) ≡ countFrom n bs
 count-made n [] small = refl
-count-made n (b ∷ bs) small = by (digit b) (ltb n 10000) refl small (count-made (10 * n + (b - 0x30)) bs)
+count-made n (b ∷ bs) small = by (digit b) (ltb n longest) refl small (count-made (10 * n + (b - 0x30)) bs)
   where
-    by : (t s : Bool) → ltb n 10000 ≡ s → cond t (countFrom (cond s (10 * n + (b - 0x30)) n) bs) n < 10000
-        → (countFrom (10 * n + (b - 0x30)) bs < 10000 → valueAfter (10 * n + (b - 0x30)) (take (runOf digit bs) bs) ≡ countFrom (10 * n + (b - 0x30)) bs)
+    by : (t s : Bool) → ltb n longest ≡ s → cond t (countFrom (cond s (10 * n + (b - 0x30)) n) bs) n < longest
+        → (countFrom (10 * n + (b - 0x30)) bs < longest → valueAfter (10 * n + (b - 0x30)) (take (runOf digit bs) bs) ≡ countFrom (10 * n + (b - 0x30)) bs)
         → valueAfter n (take (cond t (suc (runOf digit bs)) 0) (b ∷ bs)) ≡ cond t (countFrom (cond s (10 * n + (b - 0x30)) n) bs) n
     by true true is small later = later small
-    by true false is small later = absurd (omega (arith, count-least n bs, ltb-false n 10000 is))
+    by true false is small later = absurd (omega (arith, count-least n bs, ltb-false n longest is))
     by false s is small later = refl
 
 -- Header values

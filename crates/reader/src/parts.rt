@@ -2,6 +2,8 @@
 use crate::quick::Swept;
 use crate::quick::Wanted;
 use crate::quick::sweep;
+use label::MOST_ROWS;
+use label::ROW;
 use label::Stretch;
 ghost use Prim.Native.Nat.{_+_};
 ghost use mathlib.Core.Path.{_≡_};
@@ -36,12 +38,12 @@ fn stretch_noted(m: &[u8], row: usize, rows: usize, note: &[u16]) -> Stretch
 pub fn stretch_of(m: &[u8], row: usize) -> Stretch
     ensures { λ r. ⌜ Lies (now (m .entry)) row (r .start) (r .length) ⌝ }
 {
-    let mut note = [0u16; 4];
+    let mut note = [0u16; ROW];
     let swept = sweep(
         m,
         Wanted {
             from: row,
-            most: 1024,
+            most: MOST_ROWS,
         },
         &mut note,
     );

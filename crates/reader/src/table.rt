@@ -4,9 +4,12 @@ use crate::quick::Swept;
 use crate::quick::Wanted;
 use crate::quick::sweep;
 use label::Counts;
+use label::MOST_ROWS;
+use label::ROW;
 use label::Reading;
 use label::Reason;
 use label::Refusal;
+use label::TABLE;
 ghost use mathlib.Core.Path.{_≡_};
 ghost use mathlib.Core.List.{[], _∷_, _++_};
 ghost use Prim.Native.Nat.{_+_, _*_, _≤_};
@@ -19,6 +22,11 @@ ghost use Rattle.label.specs.Answer.{answerOf, roomOf, readAnswer, overlaid, ta
 ghost use Rattle.exact.specs.Tables.{Room};
 ghost use Rattle.reader.specs.Quick.{Kept, Handed};
 
+// Most labels have no more rows than this, and notes for the most rows take long to clear.
+const FEW_ROWS: usize = 64;
+
+const FEW_NOTES: usize = ROW * FEW_ROWS;
+
 // A noted number as one of a table.
 fn widened(x: u16) -> u32
     ensures { λ r. ⌜ r ≡ x ⌝ }
@@ -26,9 +34,9 @@ fn widened(x: u16) -> u32
     x as u32
 }
 
-// Copies a row's four numbers from the notes into a table, at the same index.
+// Copies a row's numbers from the notes into a table, at the same index.
 fn copy_row(notes: &[u16], table: &mut [u32], at: usize)
-    requires { ⌜ (at + 4 ≤ length (now notes)) × (at + 4 ≤ length (now table)) ⌝ }
+    requires { ⌜ (at + rowWidth ≤ length (now notes)) × (at + rowWidth ≤ length (now table)) ⌝ }
     ensures { λ r. ⌜ now (table .exit) ≡ take at (now (table .entry)) ++ ((getD (now (notes .entry)) at 0 ∷ getD (now (notes .entry)) (at + 1) 0 ∷ getD (now (notes .entry)) (at + 2) 0 ∷ getD (now (notes .entry)) (at + 3) 0 ∷ []) ++ drop (at + rowWidth) (now (table .entry))) ⌝ }
 {
     table[at] = widened(notes[at]);
@@ -44,7 +52,7 @@ fn fill_from(m: &[u8], rows: usize, notes: &[u16], table: &mut [u32])
 {
     let mut i = 0;
     while i < rows {
-        copy_row(notes, table, 4 * i);
+        copy_row(notes, table, ROW * i);
         i += 1;
     }
 }
@@ -56,7 +64,7 @@ fn hand_over(message: &[u8], found: Counts, notes: &[u16], table: &mut [u32]) ->
     ensures rows { λ _. ⌜ now (table .exit) ≡ tableAfter edition2005 (now (message .entry)) (now (table .entry)) ⌝ }
 {
     let noted = found.rows;
-    if table.len() / 4 < noted {
+    if table.len() / ROW < noted {
         return Reading::Refused(Refusal {
             reason: Reason::NoRoom,
             place: 0,
@@ -71,12 +79,12 @@ fn read_many(message: &[u8], table: &mut [u32]) -> Reading
     ensures answer { λ r. ⌜ answerOf r ≡ readAnswer edition2005 (now (message .entry)) (roomOf (now (table .entry))) ⌝ }
     ensures rows { λ _. ⌜ now (table .exit) ≡ tableAfter edition2005 (now (message .entry)) (now (table .entry)) ⌝ }
 {
-    let mut notes = [0u16; 4096];
+    let mut notes = [0u16; TABLE];
     let swept = sweep(
         message,
         Wanted {
             from: 0,
-            most: 1024,
+            most: MOST_ROWS,
         },
         &mut notes,
     );
@@ -86,16 +94,22 @@ fn read_many(message: &[u8], table: &mut [u32]) -> Reading
     }
 }
 
-// Reads a message of any bytes and any length into a table of any length, whose room is its length divided by four. Accepted:
-// the counts of envelopes and rows, and the table's first numbers are the rows, four each; what follows them stays as it was.
+// Reads a message of any bytes and any length into a table of any length, whose room is its length divided by the numbers of a row. Accepted:
+// the counts of envelopes and rows, and the table's first numbers are the rows'; what follows them stays as it was.
 // Refused: why, and where; the table stays as it was.
 pub fn read(message: &[u8], table: &mut [u32]) -> Reading
     ensures answer { λ r. ⌜ answerOf r ≡ readAnswer edition2005 (now (message .entry)) (roomOf (now (table .entry))) ⌝ }
     ensures rows { λ _. ⌜ now (table .exit) ≡ tableAfter edition2005 (now (message .entry)) (now (table .entry)) ⌝ }
 {
-    // Most labels have fewer than 64 rows.
-    let mut notes = [0u16; 256];
-    let swept = sweep(message, Wanted { from: 0, most: 64 }, &mut notes);
+    let mut notes = [0u16; FEW_NOTES];
+    let swept = sweep(
+        message,
+        Wanted {
+            from: 0,
+            most: FEW_ROWS,
+        },
+        &mut notes,
+    );
     match swept {
         Swept::Good(counts) => hand_over(message, counts, &notes, table),
         Swept::Full => read_many(message, table),

@@ -3,15 +3,13 @@ ghost use mathlib.Core.Path.{_≡_};
 ghost use Prim.Native.Nat.{_+_, min};
 ghost use lib.ListN.{length, set};
 ghost use Rattle.io.specs.Counts.{Counts};
+use label::ROW;
 use label::Reading;
 use label::Writing;
 use libc::STDOUT_FILENO;
 
 // Room for a line of four numbers: each takes at most 20 digits and the byte behind it.
 const LINE: usize = 84;
-
-// How many numbers a row has in the table.
-const WIDTH: usize = 4;
 
 // Prints the line of what the writer answers: 0 and the byte count, or the reason's number.
 pub fn print_writing(writing: Writing) {
@@ -52,8 +50,8 @@ fn print_rows(table: &[u32], rows: usize) {
 
 // Prints a row, counted from 0: kind, format, start, length. Prints nothing if the table has no such row.
 pub fn print_row(table: &[u32], row: usize) {
-    if row < table.len() / WIDTH {
-        let at = row * WIDTH;
+    if row < table.len() / ROW {
+        let at = row * ROW;
         let mut line = [0u8; LINE];
         let a = put_number(wide(table[at]), b' ', &mut line, 0);
         let b = put_number(wide(table[at + 1]), b' ', &mut line, a);

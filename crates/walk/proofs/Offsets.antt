@@ -6,6 +6,7 @@ use native.Mathlib.Omega.{arith}
 use borrow.Author.Tests.{leb-true, lt-ltb, le-ltb}
 use lib.ListN.{length, getD, drop, length-take, length-drop}
 use lib.Dec.{leb, ltb}
+use Rattle.label.specs.Limits.{longest}
 use Rattle.label.specs.Bytes.{Bytes, between, digit}
 use Rattle.label.proofs.Tests.{both}
 use Rattle.leaves.proofs.Turns.{drop-step}
@@ -31,13 +32,13 @@ module _ (m : Bytes) (i : ℕ) (inside : i < length m) where
   pub run-by : (class : ℕ → Bool) (t : Bool) → class (getD m i 0) ≡ t → runOf class (drop i m) ≡ cond t (suc (runOf class (drop (i + 1) m))) 0
   run-by class t is = ap (runOf class) (drop-step m i inside) ∙ ap (λ t. cond t (suc (runOf class (drop (i + 1) m))) 0) is
 
-  pub count-by : (n : ℕ) (t : Bool) → digit (getD m i 0) ≡ t → countFrom n (drop i m) ≡ cond t (countFrom (cond (ltb n 10000) (10 * n + (getD m i 0 - 0x30)) n) (drop (i + 1) m)) n
+  pub count-by : (n : ℕ) (t : Bool) → digit (getD m i 0) ≡ t → countFrom n (drop i m) ≡ cond t (countFrom (cond (ltb n longest) (10 * n + (getD m i 0 - 0x30)) n) (drop (i + 1) m)) n
   count-by n t is =
       ap (countFrom n) (drop-step m i inside)
-      ∙ ap (λ t. cond t (countFrom (cond (ltb n 10000) (10 * n + (getD m i 0 - 0x30)) n) (drop (i + 1) m)) n) is
+      ∙ ap (λ t. cond t (countFrom (cond (ltb n longest) (10 * n + (getD m i 0 - 0x30)) n) (drop (i + 1) m)) n) is
 
-  pub count-grows : (n : ℕ) → digit (getD m i 0) ≡ true → n < 10000 → countFrom (10 * n + (getD m i 0 - 0x30)) (drop (i + 1) m) ≡ countFrom n (drop i m)
-  count-grows n is small = sym (count-by n true is ∙ ap (λ t. countFrom (cond t (10 * n + (getD m i 0 - 0x30)) n) (drop (i + 1) m)) (lt-ltb n 10000 small))
+  pub count-grows : (n : ℕ) → digit (getD m i 0) ≡ true → n < longest → countFrom (10 * n + (getD m i 0 - 0x30)) (drop (i + 1) m) ≡ countFrom n (drop i m)
+  count-grows n is small = sym (count-by n true is ∙ ap (λ t. countFrom (cond t (10 * n + (getD m i 0 - 0x30)) n) (drop (i + 1) m)) (lt-ltb n longest small))
 
-  pub count-stays : (n : ℕ) → digit (getD m i 0) ≡ true → 10000 ≤ n → countFrom n (drop (i + 1) m) ≡ countFrom n (drop i m)
-  count-stays n is large = sym (count-by n true is ∙ ap (λ t. countFrom (cond t (10 * n + (getD m i 0 - 0x30)) n) (drop (i + 1) m)) (le-ltb n 10000 large))
+  pub count-stays : (n : ℕ) → digit (getD m i 0) ≡ true → longest ≤ n → countFrom n (drop (i + 1) m) ≡ countFrom n (drop i m)
+  count-stays n is large = sym (count-by n true is ∙ ap (λ t. countFrom (cond t (10 * n + (getD m i 0 - 0x30)) n) (drop (i + 1) m)) (le-ltb n longest large))

@@ -43,17 +43,17 @@ value-least : (n : ℕ) (ds : Bytes) → n ≤ valueAfter n ds
 value-least n [] = omega arith
 value-least n (d ∷ ds) = omega (arith, value-least (10 * n + (d - 0x30)) ds)
 
-count-stops : (n : ℕ) (ds rest : Bytes) → every digit ds ≡ true → digit (firstOf rest) ≡ false → valueAfter n ds < 10000 → countFrom n (ds ++ rest) ≡ valueAfter n ds
+count-stops : (n : ℕ) (ds rest : Bytes) → every digit ds ≡ true → digit (firstOf rest) ≡ false → valueAfter n ds < longest → countFrom n (ds ++ rest) ≡ valueAfter n ds
 count-stops n [] rest ok ends small = none rest ends
   where
     none : (bs : Bytes) → digit (firstOf bs) ≡ false → countFrom n bs ≡ n
     none [] h = refl
-    none (b ∷ bs) h = ap (λ t. cond t (countFrom (cond (ltb n 10000) (10 * n + (b - 0x30)) n) bs) n) h
+    none (b ∷ bs) h = ap (λ t. cond t (countFrom (cond (ltb n longest) (10 * n + (b - 0x30)) n) bs) n) h
 count-stops n (d ∷ ds) rest ok ends small =
     let k = both (digit d) (every digit ds) ok in
     let least = value-least (10 * n + (d - 0x30)) ds in
-    ap (λ t. cond t (countFrom (cond (ltb n 10000) (10 * n + (d - 0x30)) n) (ds ++ rest)) n) (k .left)
-    ∙ ap (λ t. countFrom (cond t (10 * n + (d - 0x30)) n) (ds ++ rest)) (lt-ltb n 10000 (omega arith))
+    ap (λ t. cond t (countFrom (cond (ltb n longest) (10 * n + (d - 0x30)) n) (ds ++ rest)) n) (k .left)
+    ∙ ap (λ t. countFrom (cond t (10 * n + (d - 0x30)) n) (ds ++ rest)) (lt-ltb n longest (omega arith))
     ∙ count-stops (10 * n + (d - 0x30)) ds rest (k .right) ends small
 
 pub digit-plain : Implies digit plain
@@ -221,7 +221,7 @@ module _ (m : Bytes) (f : ℕ) where
         let ps = rowed bodyRow f payload ∷ mark RS ∷ later in
         plain-leads m CountValue f n (mark GS ∷ ps) (every-implies digit plain digit-plain n ds) refl λ start h.
         let left = bytesOf (mark GS ∷ ps) in
-        let small : value n < 10000 = omega (arith, ap length h, length-drop start m, length-append n left, length-append payload (RS ∷ bytesOf later)) in
+        let small : value n < longest = omega (arith, ap length h, length-drop start m, length-append n left, length-append payload (RS ∷ bytesOf later)) in
         let says : countFrom 0 (drop start m) ≡ length payload = ap (countFrom 0) h ∙ count-stops 0 n left ds refl small ∙ counts in
         mark-leads m (λ at. standing Body f at (countFrom 0 (drop start m))) GS ps
         (λ at h′. body-yields later next at (countFrom 0 (drop start m)) payload says h′)

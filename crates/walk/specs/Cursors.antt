@@ -4,6 +4,7 @@ use mathlib.Core.Bool.{Bool, false, cond}
 use mathlib.Core.List.{[], _∷_}
 use lib.ListN.{length, getD, take, drop}
 use lib.Dec.{eqb, ltb}
+use Rattle.label.specs.Limits.{longest}
 use Rattle.label.specs.Bytes.{Bytes, GS, RS, US, plain, digit}
 use Rattle.label.specs.Values.{releaseLength}
 use Rattle.label.specs.Formats.{edition2005, ruleOf}
@@ -33,7 +34,7 @@ plainRun bs = runOf plain bs
 -- the number that digits in front make behind those that make n; a number of 10,000 or more, longer than any message, grows no further
 abbrev pub countFrom : ℕ → Bytes → ℕ
 countFrom n [] = n
-countFrom n (b ∷ bs) = cond (digit b) (countFrom (cond (ltb n 10000) (10 * n + (b - 0x30)) n) bs) n
+countFrom n (b ∷ bs) = cond (digit b) (countFrom (cond (ltb n longest) (10 * n + (b - 0x30)) n) bs) n
 
 -- the kind of a row
 abbrev pub kindOf : Stage → ℕ

@@ -7,6 +7,9 @@ ghost use lib.ListN.{drop, getD};
 ghost use Rattle.label.specs.Formats.{edition2005, ruleOf};
 ghost use Rattle.walk.specs.Shapes.{shapeOf};
 ghost use Rattle.walk.specs.Cursors.{ahead, plainRun, countFrom, kindOf, standing, plainRow, indicatorAt, textRow, restRow, opening, afterPiece, afterSegment, afterSubElement, firstCursor, nextCursor, pieceFollows};
+use label::HEADER_LENGTH;
+use label::LONGEST;
+use label::RELEASE_LENGTH;
 use leaves::Class;
 use leaves::GS;
 use leaves::RS;
@@ -115,7 +118,7 @@ fn plain_run(m: &[u8], at: usize) -> usize
     i - at
 }
 
-// The number that the digits from an offset on make; at 10,000 or more, longer than any message, it grows no further.
+// The number that the digits from an offset on make; at the length of the longest message or more it grows no further.
 pub fn count_from(m: &[u8], at: usize) -> usize
     ensures { λ r. ⌜ r ≡ countFrom 0 (drop at (now (m .entry))) ⌝ }
 {
@@ -126,7 +129,7 @@ pub fn count_from(m: &[u8], at: usize) -> usize
         if !leaves::in_class(Class::Digit, b) {
             return n;
         }
-        if n < 10000 {
+        if n < LONGEST {
             n = 10 * n + wide(b - 0x30);
         }
         i += 1;
@@ -223,7 +226,7 @@ fn opening_at(m: &[u8], format: u32, end: usize) -> Cursor
     match shape {
         Shape::Fields => standing_at(Stage::VersionValue, format, behind, 2),
         Shape::Rest => rest_at(m, format, end),
-        Shape::Segments => standing_at(Stage::ReleaseValue, format, end, 6),
+        Shape::Segments => standing_at(Stage::ReleaseValue, format, end, RELEASE_LENGTH),
         Shape::Elements => plain_row(m, Stage::Piece, format, behind),
         Shape::Text => text_at(m, format, end),
         Shape::Counted => plain_row(m, Stage::TypeValue, format, behind),
@@ -272,7 +275,7 @@ fn after_sub_element(m: &[u8], format: u32, end: usize) -> Cursor
 pub fn first(m: &[u8]) -> Cursor
     ensures { λ r. ⌜ r ≡ firstCursor (now (m .entry)) ⌝ }
 {
-    indicator_at(m, 4)
+    indicator_at(m, HEADER_LENGTH)
 }
 
 // The row behind a row, on a good message. It takes every message and every cursor.

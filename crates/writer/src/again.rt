@@ -1,6 +1,8 @@
 // Reading and writing in a circle: what is read of a good message writes that message.
 use crate::write;
+use label::ROW;
 use label::Reading;
+use label::TABLE;
 use label::Writing;
 ghost use Prim.Native.Nat.{_*_, _≤_};
 ghost use mathlib.Core.Path.{_≡_};
@@ -17,7 +19,7 @@ fn numbers_into(message: &[u8], table: &mut [u32]) -> usize
 {
     let reading = reader::read(message, table);
     match reading {
-        Reading::Accepted(counts) => 4 * counts.rows,
+        Reading::Accepted(counts) => ROW * counts.rows,
         Reading::Refused(_) => 0,
     }
 }
@@ -29,7 +31,7 @@ pub fn write_again(message: &[u8], output: &mut [u8]) -> Writing
     ensures bytes { λ _. ⌜ now (output .exit) ≡ outputAfter edition2005 (now (message .entry)) (numbersRead (now (message .entry))) (now (output .entry)) ⌝ }
     ensures round { λ r. ⌜ GoesRound (now (message .entry)) (now (output .entry)) (now (output .exit)) r ⌝ }
 {
-    let mut table = [0u32; 4096];
+    let mut table = [0u32; TABLE];
     let count = numbers_into(message, &mut table);
     write(message, &table[..count], output)
 }

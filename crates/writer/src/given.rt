@@ -1,5 +1,6 @@
 // The rows that are given: whether they stand, one of them, and whether a cursor's row is like one.
 use label::MOST_ROWS;
+use label::ROW;
 use walk::Cursor;
 ghost use mathlib.Core.Path.{_≡_};
 ghost use Prim.Native.Nat.{_+_, _≤_};
@@ -42,7 +43,7 @@ fn all_inside(held: &[u8], rows: &[u32]) -> bool
     while i < rows.len() {
         let row = row_from(rows, i);
         ok = ok & ((row.start as usize) + (row.length as usize) <= long);
-        i += 4;
+        i += ROW;
     }
     ok
 }
@@ -51,10 +52,10 @@ fn all_inside(held: &[u8], rows: &[u32]) -> bool
 pub(crate) fn rows_stand(held: &[u8], rows: &[u32]) -> bool
     ensures { λ r. ⌜ r ≡ rowsStand (now (held .entry)) (now (rows .entry)) ⌝ }
 {
-    if rows.len() % 4 != 0 {
+    if rows.len() % ROW != 0 {
         return false;
     }
-    if MOST_ROWS < rows.len() / 4 {
+    if MOST_ROWS < rows.len() / ROW {
         return false;
     }
     all_inside(held, rows)

@@ -5,6 +5,7 @@ use crate::marks::Marks;
 use crate::marks::between;
 use crate::marks::ending_of;
 use crate::marks::heading;
+use label::ROW;
 ghost use Prim.Native.Nat.{_≤_, _<_};
 ghost use mathlib.Core.Path.{_≡_};
 ghost use mathlib.Core.List.{[], _++_};
@@ -51,7 +52,7 @@ fn marks_before(rows: &[u32], i: usize) -> Marks
     if i == 0 {
         return heading();
     }
-    between(rows[i + 1], rows[i - 4], rows[i])
+    between(rows[i + 1], rows[i - ROW], rows[i])
 }
 
 // Puts a row: what stands before it, and its content.
@@ -75,8 +76,8 @@ pub(crate) fn lay_out(held: &[u8], rows: &[u32], out: &mut [u8]) -> usize
     let mut i = 0;
     while i < rows.len() {
         at = put_row(held, rows, i, out, at);
-        i += 4;
+        i += ROW;
     }
-    let last = row_from(rows, i - 4);
+    let last = row_from(rows, i - ROW);
     put_marks(out, at, ending_of(last.format, last.kind))
 }

@@ -6,6 +6,8 @@ mod laying;
 mod marks;
 
 pub use again::write_again;
+use label::LONGEST;
+use label::ROW;
 use label::WriteReason;
 use label::Writing;
 ghost use mathlib.Core.Path.{_≡_};
@@ -22,7 +24,7 @@ fn same_rows(m: &[u8], rows: &[u32]) -> bool
     requires { ⌜ Whole (now rows) ⌝ }
     ensures { λ r. ⌜ r ≡ alike (rowsRead (reading edition2005 (now (m .entry)))) (rowsIn (now (rows .entry))) ⌝ }
 {
-    if exact::rows_of(m) != rows.len() / 4 {
+    if exact::rows_of(m) != rows.len() / ROW {
         return false;
     }
     let mut c = walk::first(m);
@@ -32,7 +34,7 @@ fn same_rows(m: &[u8], rows: &[u32]) -> bool
             return false;
         }
         c = walk::next(m, c);
-        i += 4;
+        i += ROW;
     }
     true
 }
@@ -68,7 +70,7 @@ pub fn write(held: &[u8], rows: &[u32], output: &mut [u8]) -> Writing
     if !given::rows_stand(held, rows) {
         return Writing::Declined(WriteReason::BadRows);
     }
-    let mut candidate = [0u8; 4096];
+    let mut candidate = [0u8; LONGEST];
     let count = compose(held, rows, &mut candidate);
     if count == 0 {
         return Writing::Declined(WriteReason::NoSuchMessage);

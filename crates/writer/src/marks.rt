@@ -1,4 +1,6 @@
 // The marks around rows: before the first, between two, behind the last. Which they are follows from kinds and formats.
+use label::HEADER;
+use label::HEADER_LENGTH;
 use leaves::EOT;
 use leaves::FS;
 use leaves::GS;
@@ -19,7 +21,7 @@ ghost use Rattle.writer.specs.Marks.{marksOf};
 
 // Some marks: as many of the bytes as count says. `marksOf` of specs/Marks has them.
 pub struct Marks {
-    pub bytes: [u8; 4],
+    pub bytes: [u8; HEADER_LENGTH],
     pub count: usize,
 }
 
@@ -49,8 +51,8 @@ pub(crate) fn heading() -> Marks
     ensures marks { λ r. ⌜ marksOf r ≡ header ⌝ }
 {
     Marks {
-        bytes: [0x5B, 0x29, 0x3E, RS],
-        count: 4,
+        bytes: HEADER,
+        count: HEADER_LENGTH,
     }
 }
 

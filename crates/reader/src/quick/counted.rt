@@ -5,6 +5,12 @@ use crate::quick::notes::Wanted;
 use crate::quick::notes::given_up;
 use crate::quick::notes::note;
 use crate::quick::runs::run_end;
+use label::LEAST_COMPRESSION;
+use label::LEAST_COUNT;
+use label::LEAST_TYPE;
+use label::MOST_COMPRESSION;
+use label::MOST_COUNT;
+use label::MOST_TYPE;
 use leaves::Class;
 use leaves::GS;
 use leaves::RS;
@@ -54,8 +60,8 @@ fn sweep_payload(m: &[u8], from: usize, count: usize, rows: usize, notes: &mut [
     let v = Value {
         stage: Stage::CountValue,
         class: Class::Digit,
-        least: 1,
-        most: 15,
+        least: LEAST_COUNT,
+        most: MOST_COUNT,
     };
     let at = sweep_value(m, from, v, count, rows, notes);
     if at == 0 {
@@ -83,8 +89,8 @@ fn sweep_compression(m: &[u8], from: usize, at: usize, rows: usize, notes: &mut 
     let v = Value {
         stage: Stage::CompressionValue,
         class: Class::Plain,
-        least: 0,
-        most: 30,
+        least: LEAST_COMPRESSION,
+        most: MOST_COMPRESSION,
     };
     let count = sweep_value(m, from, v, at, rows, notes);
     if count == 0 {
@@ -116,8 +122,8 @@ pub(crate) fn sweep_counted(
     let v = Value {
         stage: Stage::TypeValue,
         class: Class::Plain,
-        least: 1,
-        most: 30,
+        least: LEAST_TYPE,
+        most: MOST_TYPE,
     };
     let from = w.from;
     let next = sweep_value(m, from, v, at + 1, rows, notes);

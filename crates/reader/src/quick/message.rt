@@ -10,9 +10,10 @@ use crate::quick::text::sweep_text;
 use crate::quick::transport::sweep_transport;
 use bodies::Kind;
 use label::Counts;
+use label::HEADER;
+use label::HEADER_LENGTH;
 use label::LONGEST;
 use leaves::EOT;
-use leaves::RS;
 use walk::Stage;
 use walk::standing_at;
 ghost use Prim.Native.Nat.{_≤_, _<_};
@@ -71,14 +72,18 @@ fn sweep_envelope(m: &[u8], w: Wanted, at: usize, rows: usize, notes: &mut [u16]
 fn framed(m: &[u8]) -> bool
     ensures { λ r. ⌜ IfSo r (Headed (now (m .entry))) ⌝ }
 {
-    if m.len() < 5 {
+    if m.len() <= HEADER_LENGTH {
         return false;
     }
     if LONGEST < m.len() {
         return false;
     }
     let last = m.len() - 1;
-    (m[0] == 0x5B) & (m[1] == 0x29) & (m[2] == 0x3E) & (m[3] == RS) & (m[last] == EOT)
+    (m[0] == HEADER[0])
+        & (m[1] == HEADER[1])
+        & (m[2] == HEADER[2])
+        & (m[3] == HEADER[3])
+        & (m[last] == EOT)
 }
 
 // What is said of a message that isn't swept to its end.
@@ -115,7 +120,7 @@ pub(crate) fn sweep(m: &[u8], w: Wanted, notes: &mut [u16]) -> Swept
         return Swept::Left;
     }
     let most = w.most;
-    let mut at = 4;
+    let mut at = HEADER_LENGTH;
     let mut envelopes = 0;
     let mut rows = 0;
     loop {

@@ -1,5 +1,6 @@
 // Notes: the rows that the sweep has gone over, in memory of its own, as four numbers each in the table's layout. And what the sweep of a part of
 // the message answers.
+use label::ROW;
 use walk::Cursor;
 use walk::kind_of;
 ghost use mathlib.Core.Path.{_≡_};
@@ -28,7 +29,7 @@ pub(crate) fn given_up(rows: usize) -> Passed
     Passed { next: 0, rows }
 }
 
-// Puts a row's four numbers into the notes, from an index on.
+// Puts a row's numbers into the notes, from an index on.
 fn put_note(notes: &mut [u16], at: usize, c: Cursor)
     requires { ⌜ (at + rowWidth ≤ length (now notes)) × ((c .start + c .length ≤ longest) × (c .format ≤ 99)) ⌝ }
     ensures { λ r. ⌜ now (notes .exit) ≡ set (set (set (set (now (notes .entry)) at (kindOf (c .stage))) (at + 1) (c .format)) (at + 2) (c .start)) (at + 3) (c .length) ⌝ }
@@ -46,8 +47,8 @@ pub(crate) fn note(notes: &mut [u16], from: usize, row: usize, c: Cursor)
     ensures { λ r. ⌜ NotedOne from (now (notes .entry)) (now (notes .exit)) row c ⌝ }
 {
     if from <= row {
-        let at = 4 * (row - from);
-        if at + 4 <= notes.len() {
+        let at = ROW * (row - from);
+        if at + ROW <= notes.len() {
             put_note(notes, at, c);
         }
     }

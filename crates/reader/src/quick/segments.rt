@@ -5,6 +5,7 @@ use crate::quick::notes::Wanted;
 use crate::quick::notes::given_up;
 use crate::quick::notes::note;
 use crate::quick::runs::run_end;
+use label::RELEASE_LENGTH;
 use leaves::Class;
 use leaves::FS;
 use leaves::GS;
@@ -159,7 +160,7 @@ pub(crate) fn sweep_segments(
     if w.most <= rows {
         return given_up(rows);
     }
-    if !leaves::all_in(Class::CapitalOrDigit, &m[at..at + 6]) {
+    if !leaves::all_in(Class::CapitalOrDigit, &m[at..at + RELEASE_LENGTH]) {
         return given_up(rows);
     }
     if (m[at + 6] != FS) | (m[at + 7] != GS) | (m[at + 8] != US) {
@@ -169,7 +170,7 @@ pub(crate) fn sweep_segments(
         notes,
         w.from,
         rows,
-        standing_at(Stage::ReleaseValue, f, at, 6),
+        standing_at(Stage::ReleaseValue, f, at, RELEASE_LENGTH),
     );
     sweep_body(m, w, f, at + 9, rows + 1, notes)
 }

@@ -6,6 +6,10 @@ use crate::quick::notes::given_up;
 use crate::quick::notes::note;
 use crate::quick::runs::run_end;
 use bodies::Kind;
+use label::HEADER_LENGTH;
+use label::LEAST_FIELDS;
+use label::MOST_FIELDS_02;
+use label::MOST_FIELDS_96;
 use leaves::Class;
 use leaves::GS;
 use leaves::RS;
@@ -23,14 +27,17 @@ ghost use Rattle.reader.specs.Quick.{Framed, PassesTo, IfAny, IfSo, Body
 ghost use Rattle.reader.specs.Transport.{FieldsOf, LastRight, fitsIn, sizeFits};
 
 // Where the format's indicator ends: 01 is allowed only as the first envelope.
-const FIRST: usize = 6;
+const FIRST: usize = HEADER_LENGTH + 2;
+
+// Behind it stand GS, the version and a byte at least.
+const SHORTEST: usize = FIRST + 4;
 
 // Whether so many bytes are a field's length by the row of its version in the limits; a later one may have none.
 fn in_limits(row: usize, i: usize, size: usize) -> bool
     ensures { λ r. ⌜ r ≡ fitsIn row i size ⌝ }
 {
     let limit = label::limits_of(row, i);
-    ((limit.0 as usize <= size) & (size <= limit.1 as usize)) | ((5 <= i) & (size == 0))
+    ((limit.0 as usize <= size) & (size <= limit.1 as usize)) | ((LEAST_FIELDS <= i) & (size == 0))
 }
 
 // The same by the field's kind.
@@ -78,7 +85,7 @@ fn field_end(m: &[u8], k: Kind, i: usize, at: usize) -> usize
 fn behind_last(limit: usize, count: usize, size: usize, next: usize) -> usize
     ensures { λ r. ⌜ IfAny r ((r ≡ next) × LastRight limit count size) ⌝ }
 {
-    if (count < 5) | (limit < count) | ((count != 5) & (size == 0)) {
+    if (count < LEAST_FIELDS) | (limit < count) | ((count != LEAST_FIELDS) & (size == 0)) {
         return 0;
     }
     next
@@ -135,7 +142,7 @@ pub(crate) fn sweep_transport(
     requires { ⌜ StandsAt (now m) w at rows (now notes) (opening (now m) 1 at (shapeOf (ruleOf edition2005 1))) ⌝ }
     ensures { λ r. ⌜ IfAny (r .next) (FormatSwept (now (m .entry)) (w .from) 1 at rows r (now (notes .exit))) ⌝ }
 {
-    if (at != FIRST) | (w.most <= rows) | (m.len() < 10) {
+    if (at != FIRST) | (w.most <= rows) | (m.len() < SHORTEST) {
         return given_up(rows);
     }
     if m[at] != GS {
@@ -150,10 +157,26 @@ pub(crate) fn sweep_transport(
         standing_at(Stage::VersionValue, 1, at + 1, 2),
     );
     if (tens == 0x30) & (units == 0x32) {
-        return sweep_fields(m, w, Kind::Fields02, 15, at + 3, rows + 1, notes);
+        return sweep_fields(
+            m,
+            w,
+            Kind::Fields02,
+            MOST_FIELDS_02,
+            at + 3,
+            rows + 1,
+            notes,
+        );
     }
     if (tens == 0x39) & (units == 0x36) {
-        return sweep_fields(m, w, Kind::Fields96, 14, at + 3, rows + 1, notes);
+        return sweep_fields(
+            m,
+            w,
+            Kind::Fields96,
+            MOST_FIELDS_96,
+            at + 3,
+            rows + 1,
+            notes,
+        );
     }
     given_up(rows)
 }

@@ -17,14 +17,26 @@ sub-last c = search needs
 shared-slice-read-result : tie.Need-shared-slice-read-result
 shared-slice-read-result c = search needs
 
+array-read-result : tie.Need-array-read-result
+array-read-result c = search needs
+
 shared-slice-read-result-2 : tie.Need-shared-slice-read-result-2
 shared-slice-read-result-2 c = search needs
+
+array-read-result-2 : tie.Need-array-read-result-2
+array-read-result-2 c = search needs
 
 shared-slice-read-result-3 : tie.Need-shared-slice-read-result-3
 shared-slice-read-result-3 c = search needs
 
+array-read-result-3 : tie.Need-array-read-result-3
+array-read-result-3 c = search needs
+
 shared-slice-read-result-4 : tie.Need-shared-slice-read-result-4
 shared-slice-read-result-4 c = search needs
+
+array-read-result-4 : tie.Need-array-read-result-4
+array-read-result-4 c = search needs
 
 shared-slice-read-result-5 : tie.Need-shared-slice-read-result-5
 shared-slice-read-result-5 c = search needs
@@ -40,8 +52,12 @@ framed-spec =
     returns-2
     sub-last
     shared-slice-read-result
+    array-read-result
     shared-slice-read-result-2
+    array-read-result-2
     shared-slice-read-result-3
+    array-read-result-3
     shared-slice-read-result-4
+    array-read-result-4
     shared-slice-read-result-5
     returns-3)
