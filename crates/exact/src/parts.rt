@@ -2,8 +2,8 @@
 use label::Reading;
 use label::Stretch;
 use walk::Cursor;
-use walk::advance;
 use walk::first;
+use walk::next;
 ghost use Prim.Native.Nat.{_<_};
 ghost use mathlib.Core.Path.{_≡_};
 ghost use lib.ListN.{length};
@@ -31,7 +31,7 @@ fn cursor_at(m: &[u8], row: usize) -> Cursor
     let mut c = first(m);
     let mut i = 0;
     while i < row {
-        c = advance(m, c);
+        c = next(m, c);
         i += 1;
     }
     c

@@ -34,7 +34,7 @@ pub(crate) fn fill(m: &[u8], rows: usize, table: &mut [u32])
     let mut i = 0;
     while i < rows {
         put_row(table, ROW * i, c);
-        c = walk::advance(m, c);
+        c = walk::next(m, c);
         i += 1;
     }
 }

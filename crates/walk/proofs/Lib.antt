@@ -1,6 +1,5 @@
 pub mod Offsets
 pub mod Walks
-pub mod Pieces
 pub mod Shaped
 pub mod Enveloped
 pub mod Promises

@@ -117,17 +117,3 @@ firstCursor m = indicatorAt m (length header)
 
 unfoldable pub nextCursor : Bytes → Cursor → Cursor
 nextCursor m c = following m (c .format) (c .start) (ahead m (c .start) (c .length)) (c .stage)
-
--- whether a row is a field or an element, and GS stands behind it
-abbrev pub pieceFollows : Bytes → Stage → ℕ → Bool
-pieceFollows m Indicator end = false
-pieceFollows m VersionValue end = false
-pieceFollows m ReleaseValue end = false
-pieceFollows m TypeValue end = false
-pieceFollows m CompressionValue end = false
-pieceFollows m CountValue end = false
-pieceFollows m Piece end = eqb (getD m end 0) GS
-pieceFollows m Tag end = false
-pieceFollows m LaterElement end = false
-pieceFollows m FurtherSubElement end = false
-pieceFollows m Body end = false

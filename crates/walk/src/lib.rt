@@ -6,7 +6,7 @@ ghost use mathlib.Core.Path.{_≡_};
 ghost use lib.ListN.{drop, getD};
 ghost use Rattle.label.specs.Formats.{edition2005, ruleOf};
 ghost use Rattle.walk.specs.Shapes.{shapeOf};
-ghost use Rattle.walk.specs.Cursors.{ahead, plainRun, countFrom, kindOf, standing, plainRow, indicatorAt, textRow, restRow, opening, afterPiece, afterSegment, afterSubElement, firstCursor, nextCursor, pieceFollows};
+ghost use Rattle.walk.specs.Cursors.{ahead, plainRun, countFrom, kindOf, standing, plainRow, indicatorAt, textRow, restRow, opening, afterPiece, afterSegment, afterSubElement, firstCursor, nextCursor};
 use label::HEADER_LENGTH;
 use label::LONGEST;
 use label::RELEASE_LENGTH;
@@ -301,28 +301,4 @@ pub fn next(m: &[u8], c: Cursor) -> Cursor
         Stage::FurtherSubElement => after_sub_element(m, format, end),
         Stage::Body => indicator_at(m, behind),
     }
-}
-
-// Whether a row is a field or an element, and another follows in its envelope.
-fn piece_follows(m: &[u8], stage: Stage, end: usize) -> bool
-    ensures { λ r. ⌜ r ≡ pieceFollows (now (m .entry)) stage end ⌝ }
-{
-    match stage {
-        Stage::Piece => byte_at(m, end) == GS,
-        _ => false,
-    }
-}
-
-// The same as `next`: most rows are fields or elements with another behind them, which is found on the spot.
-pub fn advance(m: &[u8], c: Cursor) -> Cursor
-    ensures { λ r. ⌜ r ≡ nextCursor (now (m .entry)) c ⌝ }
-{
-    let stage = c.stage;
-    let start = c.start;
-    let length = c.length;
-    let end = ahead_of(m, start, length);
-    if piece_follows(m, stage, end) {
-        return plain_row(m, Stage::Piece, c.format, ahead_of(m, end, 1));
-    }
-    next(m, c)
 }

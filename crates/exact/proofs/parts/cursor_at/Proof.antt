@@ -30,8 +30,8 @@ loop-holds c =
     let all = rowsRead (reading edition2005 m) in
     (search needs, subst (λ (at : Cursor). Yields m at all) (sym (c .first .ensures)) (walked m .yields))
 
-advance-requires : tie.Need-advance-requires Inv-loop μ-loop
-advance-requires c κs = search needs
+next-requires : tie.Need-next-requires Inv-loop μ-loop
+next-requires c κs = search needs
 
 add-i : tie.Need-add-i Inv-loop μ-loop
 add-i c = search needs
@@ -45,7 +45,7 @@ loop-again c =
     let all = rowsRead (reading edition2005 m) in
     let at = c .before .before .loop in
     let more : at .i < length all = omega (arith, c .before .loop-test .taken) in
-    (search needs, subst (λ (next : Cursor). Yields m next (drop (at .i + 1) all)) (sym (c .advance .ensures)) (yields-next m all (at .c) (at .i) (at .inv .1) more))
+    (search needs, subst (λ (next : Cursor). Yields m next (drop (at .i + 1) all)) (sym (c .next .ensures)) (yields-next m all (at .c) (at .i) (at .inv .1) more))
 
 returns : tie.Need-returns Inv-loop μ-loop
 returns c =
@@ -63,7 +63,7 @@ cursor-at-spec =
     μ-loop
     first-requires
     loop-holds
-    advance-requires
+    next-requires
     add-i
     loop-less
     loop-again

@@ -45,8 +45,8 @@ put-row-requires c κs =
     let long = filled-length m all old (at .table) (at .c) (at .i) (at .inv) roomy in
     record { roomy = omega arith; inside = filled-inside m all old (at .table) (at .c) (at .i) (at .inv) roomy more (walked m .inside) }
 
-advance-requires : tie.Need-advance-requires Inv-loop μ-loop
-advance-requires c κs = search needs
+next-requires : tie.Need-next-requires Inv-loop μ-loop
+next-requires c κs = search needs
 
 add-i : tie.Need-add-i Inv-loop μ-loop
 add-i c = search needs
@@ -62,7 +62,7 @@ loop-again c =
     let roomy : rowWidth * length all ≤ length old = omega arith in
     let at = c .before .before .before .before .before .before .loop in
     let more : at .i < length all = omega (arith, c .before .before .before .before .before .loop-test .taken) in
-    subst (λ (next : Cursor). Filled m all old (c .before .before .before .put-row .last .0) next (at .i + 1)) (sym (c .advance .ensures))
+    subst (λ (next : Cursor). Filled m all old (c .before .before .before .put-row .last .0) next (at .i + 1)) (sym (c .next .ensures))
     (filled-next m all old (at .table) (at .c) (at .i) (at .inv) roomy more (c .before .before .before .put-row .last .0) (c .before .before .before .put-row .ensures))
 
 same-length : tie.Need-same-length Inv-loop μ-loop
@@ -93,7 +93,7 @@ fill-spec =
     loop-holds
     mul-put-row
     put-row-requires
-    advance-requires
+    next-requires
     add-i
     loop-less
     loop-again
