@@ -1,4 +1,4 @@
--- Laws of elements that are taken from a message byte by byte: where the digits in front end, and that what follows makes an element of 05 or 06.
+-- Laws of elements that are taken from a message byte by byte: where the digits in front end, and that what follows makes an element of 06.
 use Prim.Native.Nat.{ℕ, zero, suc, _+_, _-_, _≤_, _<_}
 use mathlib.Core.Path.{_≡_, refl, sym, ap, _∙_}
 use mathlib.Core.Bool.{Bool, true, false, not, _&&_, _||_, cond, true≢false}
@@ -10,7 +10,7 @@ use lib.ListN.{length, getD, take, drop, length-take, length-drop}
 use lib.Seq.{take-nil, drop-drop, getD-drop}
 use lib.Dec.{leb, ltb}
 use Rattle.label.specs.Bytes.{Bytes, between, plain, digit, capital, every, isEmpty}
-use Rattle.label.specs.Elements.{element05, capitalAndMore, afterDigits, element06}
+use Rattle.label.specs.Elements.{capitalAndMore, afterDigits, element06}
 use Rattle.label.proofs.Tests.{both, and-both, Implies}
 use Rattle.leaves.proofs.Turns.{drop-step}
 use Rattle.walk.specs.Cursors.{plainRun}
@@ -108,26 +108,10 @@ run-06 bs some is =
           ∙ capital-run rest some (ap capital (getD-drop d bs 0 0 ∙ ap (λ n. getD bs n 0) (add-zero d)) ∙ is),
     )
 
--- 05: two digits, and at least three bytes
-pub run-05 : (bs : Bytes) (n : ℕ) → 3 ≤ n → n ≤ length bs → digit (getD bs 0 0) ≡ true → digit (getD bs 1 0) ≡ true → element05 (take n bs) ≡ true
-unfolding element05
-run-05 [] n some long one two = absurd (omega arith)
-run-05 (b ∷ []) n some long one two = absurd (omega arith)
-run-05 (b ∷ (b′ ∷ bs)) n some long one two =
-    let k : n ≡ suc (suc (n - 2)) = omega arith in
-    and-both (le-leb 3 (length (take n (b ∷ (b′ ∷ bs)))) (omega (arith, length-take n (b ∷ (b′ ∷ bs)))))
-    (ap (λ n. every digit (take 2 (take n (b ∷ (b′ ∷ bs))))) k ∙ and-both one (and-both two refl))
-
 -- the same of a message, from an offset on
 module _ (m : Bytes) (at end : ℕ) where
   first-byte : (n : ℕ) → getD (drop at m) n 0 ≡ getD m (at + n) 0
   first-byte n = getD-drop at m n 0
-
-  pub passes-05 : RunsTo plain m at end → at + 3 ≤ end → (digit (getD m at 0) && digit (getD m (at + 1) 0)) ≡ true → PassesTo element05 m at end
-  passes-05 to some digits =
-      let k = both (digit (getD m at 0)) (digit (getD m (at + 1) 0)) digits in
-      let one = ap digit (first-byte 0 ∙ ap (λ n. getD m n 0) (add-zero at)) ∙ k .left in
-      record { runs = to; passes = run-05 (drop at m) (end - at) (omega arith) (omega (arith, length-drop at m, to .inside)) one (ap digit (first-byte 1) ∙ k .right) }
 
   module _ (c : ℕ) (letter : (ltb (getD m c 0) 0x41 || ltb 0x5A (getD m c 0)) ≡ false) where
     is-capital : capital (getD m c 0) ≡ true

@@ -3,6 +3,7 @@ use crate::quick::notes::Passed;
 use crate::quick::notes::Wanted;
 use crate::quick::notes::given_up;
 use crate::quick::notes::note;
+use crate::quick::runs::piece_end;
 use crate::quick::runs::run_end;
 use bodies::Kind;
 use leaves::Class;
@@ -13,7 +14,7 @@ use walk::standing_at;
 ghost use mathlib.Core.Path.{_≡_};
 ghost use Prim.Native.Nat.{_+_, _<_};
 ghost use lib.ListN.{length, drop};
-ghost use Rattle.label.specs.Elements.{element05, element06};
+ghost use Rattle.label.specs.Elements.{element06};
 ghost use Rattle.label.specs.Formats.{edition2005, ruleOf};
 ghost use Rattle.bodies.specs.Kinds.{pieceTest};
 ghost use Rattle.walk.specs.Shapes.{shapeOf};
@@ -33,21 +34,6 @@ fn behind_digits(m: &[u8], at: usize) -> usize
         i += 1;
     }
     i
-}
-
-// The end of an element of 05, or 0.
-fn end_of_05(m: &[u8], at: usize) -> usize
-    requires { ⌜ Framed (now m) × (at < length (now m)) ⌝ }
-    ensures { λ r. ⌜ IfAny r (PassesTo element05 (now (m .entry)) at r) ⌝ }
-{
-    let end = run_end(m, Class::Plain, at);
-    if end < at + 3 {
-        return 0;
-    }
-    if leaves::in_class(Class::Digit, m[at]) & leaves::in_class(Class::Digit, m[at + 1]) {
-        return end;
-    }
-    0
 }
 
 // The end of an element of 06, or 0: each byte is looked at once.
@@ -73,7 +59,7 @@ fn element_end(m: &[u8], k: Kind, at: usize) -> usize
     ensures { λ r. ⌜ IfAny r (PassesTo (pieceTest k 0) (now (m .entry)) at r) ⌝ }
 {
     match k {
-        Kind::Elements05 => end_of_05(m, at),
+        Kind::Elements05 => piece_end(m, Kind::Elements05, 0, at),
         Kind::Elements06 => end_of_06(m, at),
         _ => 0,
     }

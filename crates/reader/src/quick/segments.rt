@@ -4,7 +4,9 @@ use crate::quick::notes::Passed;
 use crate::quick::notes::Wanted;
 use crate::quick::notes::given_up;
 use crate::quick::notes::note;
+use crate::quick::runs::piece_end;
 use crate::quick::runs::run_end;
+use bodies::Kind;
 use label::RELEASE_LENGTH;
 use leaves::Class;
 use leaves::FS;
@@ -27,18 +29,8 @@ fn tag_end(m: &[u8], at: usize) -> usize
     requires { ⌜ Framed (now m) × (at < length (now m)) ⌝ }
     ensures { λ r. ⌜ IfAny r (TagTo (now (m .entry)) at r) ⌝ }
 {
-    let end = run_end(m, Class::CapitalOrDigit, at);
-    if end < at + 2 {
-        return 0;
-    }
-    if at + 3 < end {
-        return 0;
-    }
-    let a = m[at];
-    if (a < 0x41) | (0x5A < a) {
-        return 0;
-    }
-    if (a == 0x42) & (m[at + 1] == 0x49) & (m[at + 2] == 0x4E) {
+    let end = piece_end(m, Kind::Segments03, 0, at);
+    if end == 0 {
         return 0;
     }
     let b = m[end];

@@ -1,4 +1,4 @@
--- `element_end` is the end of 05 or of 06, by the kind of body.
+-- `element_end` is the end that `bodies` says of 05, or the hand-tuned one of 06.
 use mathlib.Core.Path.{sym, subst}
 use native.Mathlib.Omega.{arith}
 use Rattle.bodies.specs.declared.Kind.{Kind}
@@ -11,8 +11,8 @@ use Rattle.reader.proofs.quick.elements.element_end.Tie as tie
 enum-told : tie.Need-enum-told
 enum-told c = search needs
 
-end-of-05-requires : tie.Need-end-of-05-requires
-end-of-05-requires c κs = search needs
+piece-end-requires : tie.Need-piece-end-requires
+piece-end-requires c κs = search needs
 
 enum-told-2 : tie.Need-enum-told-2
 enum-told-2 c = search needs
@@ -24,7 +24,7 @@ returns : tie.Need-returns
 returns c =
     λ some.
     let args = c .before .before .before .before .args in
-    subst (λ (k : Kind). PassesTo (pieceTest k 0) (args .m .now) (args .at) (c .end-of-05 .result)) (sym (c .before .enum-told .given .1)) (c .end-of-05 .ensures some)
+    subst (λ (k : Kind). PassesTo (pieceTest k 0) (args .m .now) (args .at) (c .piece-end .result)) (sym (c .before .enum-told .given .1)) (c .piece-end .ensures some)
 
 returns-2 : tie.Need-returns-2
 returns-2 c =
@@ -41,7 +41,7 @@ element-end-spec =
     tie.close
     (tie.spec
     enum-told
-    end-of-05-requires
+    piece-end-requires
     enum-told-2
     end-of-06-requires
     returns
