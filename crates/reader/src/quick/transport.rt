@@ -4,6 +4,7 @@ use crate::quick::notes::Passed;
 use crate::quick::notes::Wanted;
 use crate::quick::notes::given_up;
 use crate::quick::notes::note;
+use crate::quick::runs::piece_end;
 use crate::quick::runs::run_end;
 use bodies::Kind;
 use label::HEADER_LENGTH;
@@ -51,30 +52,16 @@ fn size_fits(k: Kind, i: usize, size: usize) -> bool
     }
 }
 
-// Whether a piece is the field with an index. Each kind is named, so that no code for other kinds stands in the loop.
-fn field_holds(k: Kind, i: usize, p: &[u8]) -> bool
-    ensures { λ r. ⌜ IfSo r (pieceTest k i (now (p .entry)) ≡ true) ⌝ }
-{
-    match k {
-        Kind::Fields02 => bodies::piece_holds(Kind::Fields02, i, p),
-        Kind::Fields96 => bodies::piece_holds(Kind::Fields96, i, p),
-        _ => false,
-    }
-}
-
-// The end of the field with an index, or 0. Four fields have a rule for their bytes; of the others only the length is asked, as
-// the bytes have just been seen to be plain.
+// The end of the field with an index, or 0. Four fields have a rule for their bytes, which `bodies` knows; of the others only the length is
+// asked, as their bytes are plain.
 fn field_end(m: &[u8], k: Kind, i: usize, at: usize) -> usize
     requires { ⌜ Framed (now m) × (at < length (now m)) ⌝ }
     ensures { λ r. ⌜ IfAny r (PassesTo (pieceTest k i) (now (m .entry)) at r) ⌝ }
 {
-    let end = run_end(m, Class::Plain, at);
     if (i == 8) | (i == 10) | (i == 1) | (i == 6) {
-        if field_holds(k, i, &m[at..end]) {
-            return end;
-        }
-        return 0;
+        return piece_end(m, k, i, at);
     }
+    let end = run_end(m, Class::Plain, at);
     if size_fits(k, i, end - at) {
         return end;
     }
