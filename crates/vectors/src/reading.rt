@@ -4,6 +4,7 @@ use crate::numbers;
 use crate::shown;
 use crate::split;
 use label::Reading;
+use label::TABLE;
 
 // Of a message that has more rows only the first and the last are printed.
 const MANY: usize = 100;
@@ -12,7 +13,7 @@ const MANY: usize = 100;
 pub(crate) fn run_message(text: &[u8]) {
     let mut message = [0u8; 4200];
     let length = notation::expand(text, &mut message);
-    let mut table = [0u32; 4096];
+    let mut table = [0u32; TABLE];
     let reading = reader::read(&message[..length], &mut table);
     print(reading, &table);
 }
