@@ -9,7 +9,6 @@ use Rattle.label.specs.Formats.{Edition}
 use Rattle.label.specs.Layout.{Part, mark, item, Row, rowsFrom, itemsOf}
 use Rattle.label.specs.Envelope.{Envelope}
 use Rattle.label.specs.Message.{messageParts, rowsOf, Good}
-use Rattle.label.specs.ReadMessage.{reading, refused}
 use Rattle.label.specs.Answer.{rowsRead}
 use Rattle.label.specs.Part.{emptyStart, stretchAt, partOf}
 use Rattle.label.specs.Writing.{itemIn}

@@ -1,26 +1,24 @@
 -- Where a walk stops, the reason and the place are those that the paper's column says; and such a place lies in the message or at its end.
-use Prim.Native.Nat.{ℕ, suc, _+_, _<_, _≤_}
-use mathlib.Core.Path.{_≡_, refl, sym, ap, _∙_, subst}
+use Prim.Native.Nat.{ℕ, suc, _≤_}
+use mathlib.Core.Path.{_≡_, sym, ap, _∙_, subst}
 use mathlib.Core.Bool.{Bool, true, false, cond}
-use mathlib.Core.List.{List, [], _∷_, _++_, map, append-assoc}
+use mathlib.Core.List.{List, [], _∷_, _++_}
 use native.Mathlib.Omega.{arith}
 use lib.ListN.{length, length-append}
 use lib.Dec.{eqb}
 use Rattle.label.specs.declared.Reason.{Reason}
 use Rattle.label.specs.declared.Reason.the-variants.{TooLong, NoMessageHeader, NoIndicator, NoTrailer, BytesAfterTrailer, UnknownFormat, NotFirst, BadFormatHeader, PayloadDoesNotFit, ByteNotPermitted, BodyBreaksRules, NoRecordSeparator, TooManyRows, NoRoom}
-use Rattle.label.specs.Bytes.{Bytes, EOT, RS, isEmpty}
+use Rattle.label.specs.Bytes.{Bytes, EOT, isEmpty}
 use Rattle.label.specs.Limits.{longest}
 use Rattle.label.specs.Formats.{Edition}
-use Rattle.label.specs.Layout.{bytesOf}
 use Rattle.label.specs.Envelope.{Envelope}
-use Rattle.label.specs.Written.{parts}
 use Rattle.label.specs.Message.{header}
 use Rattle.label.specs.ReadEnvelope.{refuse, readEnvelope}
 use Rattle.label.specs.ReadMessage.{placeOf, agreement}
 use Rattle.label.specs.Place.{inFront, Front, CanStand, withItsRS, asAllTheRest, AtEnvelope, PlaceFor}
 use Rattle.label.proofs.EnvelopeSound.{OfEnvelope}
 use Rattle.label.proofs.EnvelopeComplete.{step-pass, whole-pass}
-use Rattle.label.proofs.MessageBytes.{closedBytes, front-bytes}
+use Rattle.label.proofs.MessageBytes.{front-bytes}
 use Rattle.label.proofs.Placed.{only-first, no-rest}
 use Rattle.label.proofs.WalkSound.{StopsAt, inEnvelope, atEnd, behindEnd, Stopped}
 

@@ -1,23 +1,22 @@
 -- What reading a message answers: the list with which the message is good, or a reason and a place that are so for it.
-use Prim.Native.Nat.{ℕ, suc, _<_, _≤_}
+use Prim.Native.Nat.{ℕ, suc, _≤_}
 use mathlib.Core.Path.{_≡_, refl, sym, ap, _∙_, subst}
-use mathlib.Core.Bool.{Bool, true, false, not, _&&_, _||_, cond}
+use mathlib.Core.Bool.{Bool, true, false, not, cond}
 use mathlib.Core.Logic.{_⊎_, inl, inr}
 use mathlib.Core.List.{List, [], _∷_, _++_}
 use native.Mathlib.Omega.{arith}
 use borrow.Author.Tests.{eqb-true, ltb-true, ltb-false}
 use lib.ListN.{length, drop, length-append}
 use lib.Dec.{eqb, ltb}
-use Rattle.label.specs.declared.Reason.{Reason}
 use Rattle.label.specs.declared.Reason.the-variants.{TooLong, NoMessageHeader, TooManyRows}
 use Rattle.label.specs.Bytes.{Bytes, every}
 use Rattle.label.specs.Limits.{longest, mostRows}
 use Rattle.label.specs.Formats.{Edition}
-use Rattle.label.specs.Envelope.{Envelope, Within}
-use Rattle.label.specs.Message.{header, isTransport, isRest, isRestAlone, transportOnlyFirst, message, rowsOf, Each, Good}
+use Rattle.label.specs.Envelope.{Envelope}
+use Rattle.label.specs.Message.{header, isRest, isRestAlone, rowsOf, Good}
 use Rattle.label.specs.Place.{GoodButForRows, PlaceFor}
 use Rattle.label.specs.ReadMessage.{Outcome, read, refused, walk, enough, agreement, withinRows, reading}
-use Rattle.label.proofs.Tests.{both, and-both, or-left, or-right, not-true}
+use Rattle.label.proofs.Tests.{both, or-left, or-right, not-true}
 use Rattle.label.proofs.MessageBytes.{message-closed, message-alone}
 use Rattle.label.proofs.Placed.{only-first, no-rest}
 use Rattle.label.proofs.WalkSound.{Alone, AllClosed, WalkSo, walk-so}

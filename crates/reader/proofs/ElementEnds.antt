@@ -1,15 +1,15 @@
 -- Laws of elements that are taken from a message byte by byte: where the digits in front end, and that what follows makes an element of 06.
 use Prim.Native.Nat.{ℕ, zero, suc, _+_, _-_, _≤_, _<_}
 use mathlib.Core.Path.{_≡_, refl, sym, ap, _∙_}
-use mathlib.Core.Bool.{Bool, true, false, not, _&&_, _||_, cond, true≢false}
+use mathlib.Core.Bool.{Bool, true, false, not, _||_, cond, true≢false}
 use mathlib.Core.List.{List, [], _∷_}
 use native.Mathlib.Nat.{add-zero}
 use native.Mathlib.Omega.{arith}
 use borrow.Author.Tests.{leb-true, le-leb, ltb-false}
-use lib.ListN.{length, getD, take, drop, length-take, length-drop}
+use lib.ListN.{length, getD, take, drop}
 use lib.Seq.{take-nil, drop-drop, getD-drop}
 use lib.Dec.{leb, ltb}
-use Rattle.label.specs.Bytes.{Bytes, between, plain, digit, capital, every, isEmpty}
+use Rattle.label.specs.Bytes.{Bytes, between, plain, digit, capital, isEmpty}
 use Rattle.label.specs.Elements.{capitalAndMore, afterDigits, element06}
 use Rattle.label.proofs.Tests.{both, and-both, Implies}
 use Rattle.leaves.proofs.Turns.{drop-step}

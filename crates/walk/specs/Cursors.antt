@@ -1,6 +1,6 @@
 -- Where the walk over the rows of a message stands, and where it goes: for every list of bytes and every cursor (01, Envelope rules and Rows).
 use Prim.Native.Nat.{ℕ, suc, _+_, _-_, _*_}
-use mathlib.Core.Bool.{Bool, false, cond}
+use mathlib.Core.Bool.{Bool, cond}
 use mathlib.Core.List.{[], _∷_}
 use lib.ListN.{length, getD, take, drop}
 use lib.Dec.{eqb, ltb}
