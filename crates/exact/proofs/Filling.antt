@@ -1,32 +1,23 @@
--- How a table is filled: four stores put a row, and one turn puts the cursor's row behind those that stand already.
-use Prim.Native.Nat.{ℕ, suc, _+_, _*_, _≤_, _<_, min}
+-- How a table is filled: one turn puts the cursor's row behind those that stand already.
+use Prim.Native.Nat.{ℕ, _+_, _*_, _≤_, _<_, min}
 use mathlib.Core.Path.{_≡_, refl, sym, ap, _∙_}
 use mathlib.Core.List.{List, [], _∷_, _++_, append-assoc}
 use native.Mathlib.Omega.{arith}
-use lib.ListN.{length, take, drop, set, length-append, length-drop}
-use lib.Seq.{sets-eq, take-at, take-all, take-add, length-take-le, drop-drop, drop-append-add}
+use lib.ListN.{length, take, drop, length-append, length-drop}
+use lib.Seq.{take-all, take-add, length-take-le}
 use Rattle.label.specs.Bytes.{Bytes}
 use Rattle.label.specs.Limits.{longest, rowWidth}
 use Rattle.label.specs.Layout.{Row, numbers, allNumbers}
 use Rattle.label.specs.Message.{Each}
 use Rattle.label.specs.Answer.{overlaid}
 use Rattle.label.proofs.Answers.{numbers-wide}
+use Rattle.noted.proofs.Copying.{put-behind}
 use Rattle.walk.specs.declared.Cursor.{Cursor}
 use Rattle.walk.specs.Cursors.{rowOf, firstCursor, nextCursor}
 use Rattle.walk.proofs.Walks.{Yields}
 use Rattle.exact.proofs.Standing.{rows-here, yields-next, holds-here}
 
-pub four-stores : (t : List ℕ) (at a b c d : ℕ) → at + rowWidth ≤ length t
-    → set (set (set (set t at a) (at + 1) b) (at + 2) c) (at + 3) d ≡ take at t ++ ((a ∷ b ∷ c ∷ d ∷ []) ++ drop (at + rowWidth) t)
-four-stores t at a b c d fits =
-    let p : at + 1 ≡ suc at = omega arith in
-    let q : at + 2 ≡ suc (suc at) = omega arith in
-    let r : at + 3 ≡ suc (suc (suc at)) = omega arith in
-    (λ i. set (set (set (set t at a) (p i) b) (q i) c) (r i) d)
-    ∙ sets-eq (a ∷ b ∷ c ∷ d ∷ []) t at fits
-    ∙ append-assoc (take at t) (a ∷ b ∷ c ∷ d ∷ []) (drop (at + rowWidth) t)
-
-all-numbers-append : (rs rs′ : List Row) → allNumbers (rs ++ rs′) ≡ allNumbers rs ++ allNumbers rs′
+pub all-numbers-append : (rs rs′ : List Row) → allNumbers (rs ++ rs′) ≡ allNumbers rs ++ allNumbers rs′
 all-numbers-append [] rs′ = refl
 all-numbers-append (r ∷ rs) rs′ = ap (λ ns. numbers r ++ ns) (all-numbers-append rs rs′) ∙ sym (append-assoc (numbers r) (allNumbers rs) (allNumbers rs′))
 
@@ -67,22 +58,12 @@ module _ (m : Bytes) (rows : List Row) (old table : List ℕ) (c : Cursor) (i : 
     pub filled-next : (table′ : List ℕ) → table′ ≡ take (rowWidth * i) table ++ (numbers (rowOf c) ++ drop (rowWidth * i + rowWidth) table)
         → Filled m rows old table′ (nextCursor m c) (i + 1)
     filled-next table′ put =
-        let front = allNumbers (take i rows) in
-        let back = drop (rowWidth * i) old in
         let further : rowWidth * i + rowWidth ≡ rowWidth * (i + 1) = omega arith in
-        let stands : take (rowWidth * i) table ≡ front = ap (take (rowWidth * i)) (filled .holds) ∙ take-at front back (rowWidth * i) done-wide in
-        let stays : drop (rowWidth * i + rowWidth) table ≡ drop (rowWidth * (i + 1)) old =
-        ap (drop (rowWidth * i + rowWidth)) (filled .holds)
-        ∙ ap (λ n. drop (n + rowWidth) (front ++ back)) (sym done-wide)
-        ∙ drop-append-add front back rowWidth
-        ∙ drop-drop rowWidth (rowWidth * i) old
-        ∙ ap (λ n. drop n old) further in
         record {
           upTo = omega arith;
           holds =
               put
-              ∙ (λ j. stands j ++ (numbers (rowOf c) ++ stays j))
-              ∙ sym (append-assoc front (numbers (rowOf c)) (drop (rowWidth * (i + 1)) old))
-              ∙ ap (λ ns. ns ++ drop (rowWidth * (i + 1)) old) (sym (ap allNumbers one-more ∙ all-numbers-append (take i rows) (rowOf c ∷ [])));
+              ∙ put-behind (allNumbers (take i rows)) (numbers (rowOf c)) old table (rowWidth * i) rowWidth done-wide (filled .holds)
+              ∙ (λ j. (sym (all-numbers-append (take i rows) (rowOf c ∷ [])) ∙ ap allNumbers (sym one-more)) j ++ drop (further j) old);
           yields = yields-next m rows c i (filled .yields) more;
         }

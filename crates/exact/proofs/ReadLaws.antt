@@ -1,10 +1,12 @@
 -- From a judgement to the answer and the table: accepted with room, accepted without, and refused.
 use Prim.Native.Nat.{ℕ, _≤_, _<_}
 use mathlib.Core.Path.{_≡_, refl, sym, ap, _∙_}
+use mathlib.Core.Bool.{cond}
 use mathlib.Core.List.{List}
 use native.Mathlib.Omega.{arith}
 use borrow.Author.Tests.{lt-ltb, le-ltb}
 use lib.ListN.{length}
+use lib.Dec.{ltb}
 use Rattle.label.specs.declared.Counts.{Counts}
 use Rattle.label.specs.declared.Refusal.{Refusal}
 use Rattle.label.specs.declared.Reading.the-variants.{Accepted, Refused}
@@ -36,23 +38,15 @@ rows-by : (o : Outcome) (counts : Counts) → judgedAs o ≡ Accepted counts →
 rows-by (read es) counts says = let is : record { envelopes = length es; rows = length (rowsOf es) } ≡ counts = cc in sym (ap (λ (c : Counts). c .rows) is)
 rows-by (refused r p) counts says = let z : _≡_ {A = ℕ} 0 1 = cc in absurd (omega arith)
 
-no-room-by : (o : Outcome) (counts : Counts) (table : List ℕ) → judgedAs o ≡ Accepted counts → roomOf table < counts .rows → ToldBy o table table (refusal NoRoom 0)
-no-room-by (read es) counts table says short =
-    let is = rows-by (read es) counts says in
-    let less = lt-ltb (roomOf table) (length (rowsOf es)) (omega arith) in
-    record { answered-so = sym (cond-yes _ _ _ less); filled-so = sym (cond-yes _ _ _ less) }
-no-room-by (refused r p) counts table says short = let z : _≡_ {A = ℕ} 0 1 = cc in absurd (omega arith)
-
-filled-by : (o : Outcome) (counts : Counts) (table : List ℕ) → judgedAs o ≡ Accepted counts → counts .rows ≤ roomOf table → ToldBy o table (overlaid (allNumbers (rowsRead o)) table) (accepted (counts .envelopes) (counts .rows))
-filled-by (read es) counts table says enough =
-    let is : record { envelopes = length es; rows = length (rowsOf es) } ≡ counts = cc in
-    let rows = rows-by (read es) counts says in
-    let fits = le-ltb (roomOf table) (length (rowsOf es)) (omega arith) in
+accepted-by : (o : Outcome) (counts : Counts) (table : List ℕ) → judgedAs o ≡ Accepted counts
+    → ToldBy o table (cond (ltb (roomOf table) (counts .rows)) table (overlaid (allNumbers (rowsRead o)) table)) (cond (ltb (roomOf table) (counts .rows)) (refusal NoRoom 0) (accepted (counts .envelopes) (counts .rows)))
+accepted-by (read es) counts table says =
+    let is : counts ≡ record { envelopes = length es; rows = length (rowsOf es) } = cc in
     record {
-      answered-so = sym (cond-no _ _ _ fits ∙ ap (λ (c : Counts). accepted (c .envelopes) (c .rows)) is);
-      filled-so = sym (cond-no _ _ _ fits);
+      answered-so = ap (λ (c : Counts). cond (ltb (roomOf table) (c .rows)) (refusal NoRoom 0) (accepted (c .envelopes) (c .rows))) is;
+      filled-so = ap (λ (c : Counts). cond (ltb (roomOf table) (c .rows)) table (overlaid (allNumbers (rowsOf es)) table)) is;
     }
-filled-by (refused r p) counts table says enough = let z : _≡_ {A = ℕ} 0 1 = cc in absurd (omega arith)
+accepted-by (refused r p) counts table says = let z : _≡_ {A = ℕ} 0 1 = cc in record { answered-so = absurd (omega arith); filled-so = absurd (omega arith) }
 
 refused-by : (o : Outcome) (r : Refusal) (table : List ℕ) → judgedAs o ≡ Refused r → ToldBy o table table (refusal (r .reason) (r .place))
 refused-by (read es) r table says = let z : _≡_ {A = ℕ} 0 1 = cc in record { answered-so = absurd (omega arith); filled-so = absurd (omega arith) }
@@ -74,12 +68,20 @@ module _ (m : Bytes) (table : List ℕ) where
   pub room-for : (counts : Counts) → judgedAs (reading edition2005 m) ≡ Accepted counts → counts .rows ≤ roomOf table → Room m (counts .rows) table
   room-for counts says enough = record { counted = rows-judged m counts says; roomy = omega arith }
 
-  pub lacks-room : (counts : Counts) → judgedAs (reading edition2005 m) ≡ Accepted counts → roomOf table < counts .rows → Told m table table (refusal NoRoom 0)
-  lacks-room counts says short = told m table table (refusal NoRoom 0) (no-room-by (reading edition2005 m) counts table says short)
+  module _ (counts : Counts) (says : judgedAs (reading edition2005 m) ≡ Accepted counts) where
+    -- accepted with room, refused for lack of it
+    pub is-accepted : Told m table (cond (ltb (roomOf table) (counts .rows)) table (overlaid (allNumbers (rowsRead (reading edition2005 m))) table)) (cond (ltb (roomOf table) (counts .rows)) (refusal NoRoom 0) (accepted (counts .envelopes) (counts .rows)))
+    is-accepted = told m table _ _ (accepted-by (reading edition2005 m) counts table says)
 
-  pub has-room : (counts : Counts) → judgedAs (reading edition2005 m) ≡ Accepted counts → counts .rows ≤ roomOf table
-      → Told m table (overlaid (allNumbers (rowsRead (reading edition2005 m))) table) (accepted (counts .envelopes) (counts .rows))
-  has-room counts says enough = told m table _ _ (filled-by (reading edition2005 m) counts table says enough)
+    pub lacks-room : roomOf table < counts .rows → Told m table table (refusal NoRoom 0)
+    lacks-room short =
+        let less = lt-ltb (roomOf table) (counts .rows) short in
+        record { answered-so = sym (cond-yes _ _ _ less) ∙ is-accepted .answered-so; filled-so = sym (cond-yes _ _ _ less) ∙ is-accepted .filled-so }
+
+    pub has-room : counts .rows ≤ roomOf table → Told m table (overlaid (allNumbers (rowsRead (reading edition2005 m))) table) (accepted (counts .envelopes) (counts .rows))
+    has-room enough =
+        let fits = le-ltb (roomOf table) (counts .rows) enough in
+        record { answered-so = sym (cond-no _ _ _ fits) ∙ is-accepted .answered-so; filled-so = sym (cond-no _ _ _ fits) ∙ is-accepted .filled-so }
 
   pub is-refused : (r : Refusal) → judgedAs (reading edition2005 m) ≡ Refused r → Told m table table (refusal (r .reason) (r .place))
   is-refused r says = told m table table _ (refused-by (reading edition2005 m) r table says)

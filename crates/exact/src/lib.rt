@@ -3,7 +3,6 @@ mod parts;
 mod rows;
 mod table;
 
-pub use parts::nowhere;
 pub use parts::rows_of;
 pub use parts::stretch_exactly;
 pub use table::read_exactly;

@@ -38,7 +38,7 @@ fn cursor_at(m: &[u8], row: usize) -> Cursor
 }
 
 // The empty start.
-pub fn nowhere() -> Stretch
+fn nowhere() -> Stretch
     ensures { λ r. ⌜ r ≡ record { start = 0; length = 0 } ⌝ }
 {
     Stretch {

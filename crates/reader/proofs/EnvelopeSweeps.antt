@@ -7,7 +7,7 @@ use native.Mathlib.Omega.{arith}
 use borrow.Author.Tests.{le-leb, ltb-false, eqb-true}
 use lib.ListN.{length, getD, take, drop, length-take, length-drop}
 use lib.Seq.{drop-drop, getD-drop, getD-at, length-take-le}
-use lib.Dec.{eqb, ltb, leb}
+use lib.Dec.{eqb, ltb}
 use Rattle.label.specs.declared.Reason.the-variants.{BadFormatHeader}
 use Rattle.label.specs.Bytes.{Bytes, GS, RS, between, digit, every}
 use Rattle.label.specs.Limits.{mostRows}

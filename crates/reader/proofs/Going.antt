@@ -6,7 +6,6 @@ use mathlib.Core.List.{List}
 use native.Mathlib.Omega.{arith}
 use borrow.Author.Tests.{ne-eqb, eq-eqb, le-ltb}
 use lib.ListN.{length, getD, drop}
-use lib.Dec.{ltb}
 use Rattle.label.specs.declared.Counts.{Counts}
 use Rattle.label.specs.declared.Reading.the-variants.{Accepted}
 use Rattle.label.specs.Bytes.{Bytes, EOT}
@@ -14,7 +13,6 @@ use Rattle.label.specs.Limits.{mostRows}
 use Rattle.label.specs.Formats.{edition2005}
 use Rattle.label.specs.ReadMessage.{reading, unboundedWalk}
 use Rattle.judge.specs.declared.State.{State}
-use Rattle.judge.specs.declared.Turn.{Turn}
 use Rattle.judge.specs.declared.Turn.the-variants.{Go}
 use Rattle.judge.specs.Shown.{judgedAs, tallied, limited}
 use Rattle.judge.specs.Turns.{resultOf, Sound, TurnSo, boundaryTurn}

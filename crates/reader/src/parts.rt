@@ -11,28 +11,6 @@ ghost use lib.ListN.{take, drop};
 ghost use Rattle.label.specs.Formats.{edition2005};
 ghost use Rattle.label.specs.Part.{partOf};
 ghost use Rattle.exact.specs.Stretches.{Lies};
-ghost use Rattle.reader.specs.Quick.{OneKept};
-
-// A noted number as an offset or a length.
-fn offset_of(x: u16) -> usize
-    ensures { λ r. ⌜ r ≡ x ⌝ }
-{
-    x as usize
-}
-
-// Where a row's part lies, of a message that was swept and whose row of that number, if it has one, is noted.
-fn stretch_noted(m: &[u8], row: usize, rows: usize, note: &[u16]) -> Stretch
-    requires { ⌜ OneKept (now m) row rows (now note) ⌝ }
-    ensures { λ r. ⌜ Lies (now (m .entry)) row (r .start) (r .length) ⌝ }
-{
-    if row < rows {
-        return Stretch {
-            start: offset_of(note[2]),
-            length: offset_of(note[3]),
-        };
-    }
-    exact::nowhere()
-}
 
 // Where a row's part lies; the empty start where there is no such row. The quick path notes this row alone.
 pub fn stretch_of(m: &[u8], row: usize) -> Stretch
@@ -48,7 +26,7 @@ pub fn stretch_of(m: &[u8], row: usize) -> Stretch
         &mut note,
     );
     match swept {
-        Swept::Good(counts) => stretch_noted(m, row, counts.rows, &note),
+        Swept::Good(counts) => noted::stretch_noted(row, counts.rows, &note),
         _ => exact::stretch_exactly(m, row),
     }
 }

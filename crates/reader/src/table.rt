@@ -7,55 +7,16 @@ use label::Counts;
 use label::MOST_ROWS;
 use label::ROW;
 use label::Reading;
-use label::Reason;
-use label::Refusal;
 use label::TABLE;
 ghost use mathlib.Core.Path.{_≡_};
-ghost use mathlib.Core.List.{[], _∷_, _++_};
-ghost use Prim.Native.Nat.{_+_, _*_, _≤_};
-ghost use lib.ListN.{length, getD, take, drop};
-ghost use Rattle.label.specs.Limits.{rowWidth};
 ghost use Rattle.label.specs.Formats.{edition2005};
-ghost use Rattle.label.specs.Layout.{allNumbers};
-ghost use Rattle.label.specs.ReadMessage.{reading};
-ghost use Rattle.label.specs.Answer.{answerOf, roomOf, readAnswer, overlaid, tableAfter, rowsRead};
-ghost use Rattle.exact.specs.Tables.{Room};
-ghost use Rattle.reader.specs.Quick.{Kept, Handed};
+ghost use Rattle.label.specs.Answer.{answerOf, roomOf, readAnswer, tableAfter};
+ghost use Rattle.reader.specs.Quick.{Handed};
 
 // Most labels have no more rows than this, and notes for the most rows take long to clear.
 const FEW_ROWS: usize = 64;
 
 const FEW_NOTES: usize = ROW * FEW_ROWS;
-
-// A noted number as one of a table.
-fn widened(x: u16) -> u32
-    ensures { λ r. ⌜ r ≡ x ⌝ }
-{
-    x as u32
-}
-
-// Copies a row's numbers from the notes into a table, at the same index.
-fn copy_row(notes: &[u16], table: &mut [u32], at: usize)
-    requires { ⌜ (at + rowWidth ≤ length (now notes)) × (at + rowWidth ≤ length (now table)) ⌝ }
-    ensures { λ r. ⌜ now (table .exit) ≡ take at (now (table .entry)) ++ ((getD (now (notes .entry)) at 0 ∷ getD (now (notes .entry)) (at + 1) 0 ∷ getD (now (notes .entry)) (at + 2) 0 ∷ getD (now (notes .entry)) (at + 3) 0 ∷ []) ++ drop (at + rowWidth) (now (table .entry))) ⌝ }
-{
-    table[at] = widened(notes[at]);
-    table[at + 1] = widened(notes[at + 1]);
-    table[at + 2] = widened(notes[at + 2]);
-    table[at + 3] = widened(notes[at + 3]);
-}
-
-// Fills a table with the rows of a message that are noted; what lies behind them stays as it was.
-fn fill_from(m: &[u8], rows: usize, notes: &[u16], table: &mut [u32])
-    requires { ⌜ (Room (now m) rows (now table) × (rowWidth * rows ≤ length (now notes))) × Kept (now m) 0 (now notes) rows ⌝ }
-    ensures { λ r. ⌜ now (table .exit) ≡ overlaid (allNumbers (rowsRead (reading edition2005 (now (m .entry))))) (now (table .entry)) ⌝ }
-{
-    let mut i = 0;
-    while i < rows {
-        copy_row(notes, table, ROW * i);
-        i += 1;
-    }
-}
 
 // The answer for a message that was swept, whose rows are noted.
 fn hand_over(message: &[u8], found: Counts, notes: &[u16], table: &mut [u32]) -> Reading
@@ -63,15 +24,8 @@ fn hand_over(message: &[u8], found: Counts, notes: &[u16], table: &mut [u32]) ->
     ensures answer { λ r. ⌜ answerOf r ≡ readAnswer edition2005 (now (message .entry)) (roomOf (now (table .entry))) ⌝ }
     ensures rows { λ _. ⌜ now (table .exit) ≡ tableAfter edition2005 (now (message .entry)) (now (table .entry)) ⌝ }
 {
-    let noted = found.rows;
-    if table.len() / ROW < noted {
-        return Reading::Refused(Refusal {
-            reason: Reason::NoRoom,
-            place: 0,
-        });
-    }
-    fill_from(message, noted, notes, table);
-    Reading::Accepted(found)
+    let end = ROW * found.rows;
+    noted::hand_over(found.envelopes, &notes[..end], table)
 }
 
 // With notes for as many rows as a message may have.

@@ -2,7 +2,7 @@
 use borrow.Author.Needs.{needs}
 use lib.ListN.{length-set}
 use Rattle.walk.specs.Cursors.{kindOf}
-use Rattle.exact.proofs.Filling.{four-stores}
+use Rattle.noted.proofs.Copying.{four-stores}
 use Rattle.exact.proofs.rows.put_row.Statement.{statement}
 use Rattle.exact.proofs.rows.put_row.Tie as tie
 

@@ -1,6 +1,9 @@
 -- `stretch_of` is the quick path's answer where that has one, and the exact reader's elsewhere.
+use mathlib.Core.Path.{sym, subst}
 use native.Mathlib.Omega.{arith}
-use Rattle.reader.proofs.NotedRows.{one-kept}
+use Rattle.label.specs.declared.Stretch.{Stretch}
+use Rattle.exact.specs.Stretches.{Lies}
+use Rattle.reader.proofs.NotedRows.{one-kept, lies-as-noted}
 use borrow.Author.Needs.{needs}
 use Rattle.reader.proofs.parts.stretch_of.Statement.{statement}
 use Rattle.reader.proofs.parts.stretch_of.Tie as tie
@@ -14,21 +17,19 @@ sweep-requires c κs = search needs
 enum-known-swept : tie.Need-enum-known-swept
 enum-known-swept c = search needs
 
-slice-aggregate-stretch-noted : tie.Need-slice-aggregate-stretch-noted
-slice-aggregate-stretch-noted c = search needs
-
 stretch-noted-requires : tie.Need-stretch-noted-requires
-stretch-noted-requires c κs =
-    let args = c .before .before .before .before .before .before .before .before .args in
-    let sweep = c .before .before .before .before .before .sweep in
-    let given = c .before .before .swept .given in
-    one-kept (args .m .now) (args .row) 1024 (sweep .last .1 .1 .0) (sweep .result) (given .0 .0) (given .1) (sweep .ensures) (omega arith)
+stretch-noted-requires c κs = search needs
 
 stretch-exactly-requires : tie.Need-stretch-exactly-requires
 stretch-exactly-requires c κs = search needs
 
 returns : tie.Need-returns
-returns c = search needs
+returns c =
+    let args = c .before .before .before .before .before .before .before .before .before .args in
+    let sweep = c .before .before .before .before .before .before .sweep in
+    let given = c .before .before .before .swept .given in
+    let kept = one-kept (args .m .now) (args .row) 1024 (sweep .last .1 .1 .0) (sweep .result) (given .0 .0) (given .1) (sweep .ensures) (omega arith) in
+    subst (λ (s : Stretch). Lies (args .m .now) (args .row) (s .start) (s .length)) (sym (c .stretch-noted .ensures)) (lies-as-noted (args .m .now) (args .row) (given .0 .0 .rows) (sweep .last .1 .1 .0) kept)
 
 returns-2 : tie.Need-returns-2
 returns-2 c = search needs
@@ -40,7 +41,6 @@ stretch-of-spec =
     slice-aggregate-sweep
     sweep-requires
     enum-known-swept
-    slice-aggregate-stretch-noted
     stretch-noted-requires
     stretch-exactly-requires
     returns

@@ -1,30 +1,33 @@
--- `hand_over` answers and fills as the definitions say: the sweep has judged the message.
-use mathlib.Core.Path.{_∙_}
-use Rattle.exact.proofs.ReadLaws.{room-for, lacks-room, has-room}
+-- `hand_over` answers and fills as the definitions say: the sweep has judged the message and noted its rows.
+use Prim.Native.Nat.{_*_}
+use mathlib.Core.Path.{sym, _∙_}
+use lib.Seq.{length-take-le}
+use Rattle.label.specs.Limits.{rowWidth}
+use Rattle.reader.proofs.NotedRows.{handed-so}
 use borrow.Author.Needs.{needs}
 use Rattle.reader.proofs.table.hand_over.Statement.{statement}
 use Rattle.reader.proofs.table.hand_over.Tie as tie
 
-returns : tie.Need-returns
-returns c =
-    let args = c .before .before .before .before .args in
-    let so = lacks-room (args .message .now) (args .table .now) (args .found) (c .before .before .before .before .pre .judged) (c .if1 .taken) in
-    (so .answered-so, so .filled-so)
+mul-end : tie.Need-mul-end
+mul-end c = search needs
 
-fill-from-requires : tie.Need-fill-from-requires
-fill-from-requires c κs =
+slice-aggregate-hand-over : tie.Need-slice-aggregate-hand-over
+slice-aggregate-hand-over c =
     let args = c .before .before .before .before .before .args in
-    let pre = c .before .before .before .before .before .pre in
-    ((room-for (args .message .now) (args .table .now) (args .found) (pre .judged) (c .before .if1 .left), pre .roomy), pre .kept)
+    sym (length-take-le (rowWidth * args .found .rows) (args .notes .now) (c .before .before .before .before .before .pre .roomy))
+
+hand-over-requires : tie.Need-hand-over-requires
+hand-over-requires c κs = search needs
 
 same-length : tie.Need-same-length
 same-length c = search needs
 
-returns-2 : tie.Need-returns-2
-returns-2 c =
-    let args = c .before .before .before .before .before .before .before .before .args in
-    let so = has-room (args .message .now) (args .table .now) (args .found) (c .before .before .before .before .before .before .before .before .pre .judged) (c .before .before .before .before .if1 .left) in
-    (so .answered-so, c .before .before .fill-from .ensures ∙ so .filled-so)
+returns : tie.Need-returns
+returns c =
+    let args = c .before .before .before .before .before .before .before .before .before .args in
+    let so = handed-so (args .message .now) (args .found) (args .notes .now) (args .table .now) (c .before .before .before .before .before .before .before .before .before .pre) in
+    (c .before .before .hand-over .ensures .0 ∙ so .answered-so, c .before .before .hand-over .ensures .1 ∙ so .filled-so)
 
 pub hand-over-spec : {M : Type 1} → statement M
-hand-over-spec = tie.close (tie.spec returns fill-from-requires same-length returns-2)
+hand-over-spec =
+    tie.close (tie.spec mul-end slice-aggregate-hand-over hand-over-requires same-length returns)

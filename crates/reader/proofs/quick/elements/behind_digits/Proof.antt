@@ -6,7 +6,6 @@ use native.Mathlib.Omega.{arith}
 use borrow.Author.Needs.{needs}
 use borrow.Author.Tests.{not-true, not-false}
 use lib.ListN.{length, drop}
-use Rattle.label.specs.Bytes.{digit}
 use Rattle.reader.specs.Quick.{digitRun}
 use Rattle.reader.proofs.Framing.{digit-behind}
 use Rattle.reader.proofs.ElementEnds.{digits-by}

@@ -1,10 +1,10 @@
 -- `copy_row` makes four stores.
 use Prim.Native.Nat.{_+_}
 use lib.ListN.{getD, length-set}
-use Rattle.exact.proofs.Filling.{four-stores}
+use Rattle.noted.proofs.Copying.{four-stores}
 use borrow.Author.Needs.{needs}
-use Rattle.reader.proofs.table.copy_row.Statement.{statement}
-use Rattle.reader.proofs.table.copy_row.Tie as tie
+use Rattle.noted.proofs.copy_row.Statement.{statement}
+use Rattle.noted.proofs.copy_row.Tie as tie
 
 mul-widened : tie.Need-mul-widened
 mul-widened c = search needs
