@@ -29,4 +29,3 @@ pub mod Composing
 pub mod Promises
 pub mod Examples
 pub mod WriterPromises
-pub mod OneOutcome

@@ -15,7 +15,7 @@ const LINE: usize = 84;
 pub fn print_writing(writing: Writing) {
     match writing {
         Writing::Written(count) => print_two(0, count as u64),
-        Writing::Declined(reason) => print_one(label::write_number_of(reason) as u64),
+        Writing::Declined(reason) => print_one(numbers::write_number_of(reason) as u64),
     }
 }
 
@@ -34,7 +34,7 @@ pub fn print_answer(reading: Reading) {
         Reading::Accepted(counts) => print_three(0, counts.envelopes as u64, counts.rows as u64),
         Reading::Refused(refusal) => {
             let reason = refusal.reason;
-            print_two(label::number_of(reason) as u64, refusal.place as u64)
+            print_two(numbers::number_of(reason) as u64, refusal.place as u64)
         }
     }
 }

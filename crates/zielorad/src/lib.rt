@@ -48,7 +48,7 @@ pub extern "C" fn zielorad_read(message: &[u8], table: &mut [u32]) -> ZieloradRe
         Reading::Refused(refusal) => {
             let reason = refusal.reason;
             ZieloradReading {
-                number: label::number_of(reason),
+                number: numbers::number_of(reason),
                 place: refusal.place as u32,
                 envelopes: 0,
                 rows: 0,
@@ -70,7 +70,7 @@ pub extern "C" fn zielorad_write(held: &[u8], rows: &[u32], output: &mut [u8]) -
             count: count as u32,
         },
         Writing::Declined(reason) => ZieloradWritten {
-            number: label::write_number_of(reason),
+            number: numbers::write_number_of(reason),
             count: 0,
         },
     }
