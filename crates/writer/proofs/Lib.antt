@@ -3,5 +3,4 @@ pub mod GivenLaws
 pub mod LayingLaws
 pub mod Comparing
 pub mod Composed
-pub mod RoundLaws
 pub mod OneOutcome

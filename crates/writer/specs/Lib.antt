@@ -1,4 +1,3 @@
 pub mod Marks
 pub mod Given
 pub mod Laying
-pub mod Round

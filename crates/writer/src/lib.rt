@@ -1,11 +1,9 @@
 // Writing rows: they are laid out in local memory as the one message that they can have, that message is read back and
 // compared with them, and only then is it copied into the lent output (01, Numbers for the receiving desk, paragraph Writer).
-mod again;
 mod given;
 mod laying;
 mod marks;
 
-pub use again::write_again;
 use label::LONGEST;
 use label::ROW;
 use label::WriteReason;

@@ -5,10 +5,10 @@ use borrow.Author.Needs.{needs}
 use lib.ListN.{length, length-take}
 use Rattle.label.specs.Formats.{edition2005}
 use Rattle.label.specs.Writing.{writeAnswerOf, writeAnswer, outputAfter}
-use Rattle.writer.specs.Round.{numbersRead}
-use Rattle.writer.proofs.RoundLaws.{goes-round}
-use Rattle.writer.proofs.again.write_again.Statement.{statement}
-use Rattle.writer.proofs.again.write_again.Tie as tie
+use Rattle.round.specs.Round.{numbersRead}
+use Rattle.round.proofs.RoundLaws.{goes-round}
+use Rattle.round.proofs.write_again.Statement.{statement}
+use Rattle.round.proofs.write_again.Tie as tie
 
 slice-aggregate-numbers-into : tie.Need-slice-aggregate-numbers-into
 slice-aggregate-numbers-into c = search needs

@@ -19,7 +19,7 @@ use Rattle.label.specs.Writing.{writeAnswerOf, writeAnswer, outputAfter}
 use Rattle.label.proofs.Promises.{accepted-is-good, good-is-read, good-is-accepted}
 use Rattle.label.proofs.RowItems.{table-numbers}
 use Rattle.label.proofs.WriterPromises.{written-back-counted, written-back-there}
-use Rattle.writer.specs.Round.{numbersRead, HoldsRead, GoesRound}
+use Rattle.round.specs.Round.{numbersRead, HoldsRead, GoesRound}
 
 module _ (m : Bytes) (table after : List ℕ) (ample : rowWidth * mostRows ≤ length table) (long : length after ≡ length table) (is : after ≡ tableAfter edition2005 m table) where
   -- accepted: as many rows as are read, and the table's first numbers are theirs

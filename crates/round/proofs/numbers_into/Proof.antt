@@ -4,9 +4,9 @@ use native.Mathlib.Omega.{arith}
 use borrow.Author.Needs.{needs}
 use lib.ListN.{length}
 use Rattle.label.specs.Answer.{answerOf}
-use Rattle.writer.proofs.RoundLaws.{holds-accepted, holds-refused}
-use Rattle.writer.proofs.again.numbers_into.Statement.{statement}
-use Rattle.writer.proofs.again.numbers_into.Tie as tie
+use Rattle.round.proofs.RoundLaws.{holds-accepted, holds-refused}
+use Rattle.round.proofs.numbers_into.Statement.{statement}
+use Rattle.round.proofs.numbers_into.Tie as tie
 
 read-requires : tie.Need-read-requires
 read-requires c κs = search needs

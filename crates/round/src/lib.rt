@@ -1,5 +1,4 @@
 // Reading and writing in a circle: what is read of a good message writes that message.
-use crate::write;
 use label::ROW;
 use label::Reading;
 use label::TABLE;
@@ -10,7 +9,7 @@ ghost use lib.ListN.{length};
 ghost use Rattle.label.specs.Limits.{mostRows, rowWidth};
 ghost use Rattle.label.specs.Formats.{edition2005};
 ghost use Rattle.label.specs.Writing.{writeAnswerOf, writeAnswer, outputAfter};
-ghost use Rattle.writer.specs.Round.{numbersRead, HoldsRead, GoesRound};
+ghost use Rattle.round.specs.Round.{numbersRead, HoldsRead, GoesRound};
 
 // Reads a message into a table with room for any, and answers how many numbers the rows read are.
 fn numbers_into(message: &[u8], table: &mut [u32]) -> usize
@@ -33,5 +32,5 @@ pub fn write_again(message: &[u8], output: &mut [u8]) -> Writing
 {
     let mut table = [0u32; TABLE];
     let count = numbers_into(message, &mut table);
-    write(message, &table[..count], output)
+    writer::write(message, &table[..count], output)
 }
