@@ -1,9 +1,9 @@
 // How many rows are read in a message, and where a row's part lies, by the exact reader.
 use label::Reading;
 use label::Stretch;
+use steps::first;
+use steps::next;
 use walk::Cursor;
-use walk::first;
-use walk::next;
 ghost use Prim.Native.Nat.{_<_};
 ghost use mathlib.Core.Path.{_≡_};
 ghost use lib.ListN.{length};

@@ -30,11 +30,11 @@ pub(crate) fn fill(m: &[u8], rows: usize, table: &mut [u32])
     requires { ⌜ Room (now m) rows (now table) ⌝ }
     ensures { λ r. ⌜ now (table .exit) ≡ overlaid (allNumbers (rowsRead (reading edition2005 (now (m .entry))))) (now (table .entry)) ⌝ }
 {
-    let mut c = walk::first(m);
+    let mut c = steps::first(m);
     let mut i = 0;
     while i < rows {
         put_row(table, ROW * i, c);
-        c = walk::next(m, c);
+        c = steps::next(m, c);
         i += 1;
     }
 }

@@ -5,7 +5,7 @@ use mathlib.Core.Bool.{Bool, true, false, not, _&&_, cond}
 use mathlib.Core.Option.{Option, none, some}
 use mathlib.Core.List.{[], _∷_, _++_}
 use native.Mathlib.Omega.{arith}
-use borrow.Author.Tests.{le-leb, lt-leb, ltb-true, ltb-false, lt-ltb, le-ltb, eqb-true, eqb-false, ne-eqb}
+use borrow.Author.Tests.{le-leb, lt-leb, ltb-true, ltb-false, lt-ltb, le-ltb, eqb-true, eqb-false}
 use lib.ListN.{length, getD, take, drop, take-append-drop, length-take, length-drop}
 use lib.Seq.{drop-drop, length-take-le}
 use lib.Dec.{leb, ltb, eqb, eqb·zero-suc, eqb·suc-suc}
@@ -17,7 +17,7 @@ use Rattle.label.specs.Pieces.{pieces, lastIsEmpty, cut}
 use Rattle.label.specs.Values.{Version, version02, version96, versionDigits, releaseLength, release, payloadType, compression, count, value}
 use Rattle.label.specs.Elements.{element05, element06}
 use Rattle.label.specs.Segments.{tag, tag03, tagged}
-use Rattle.label.specs.Formats.{edition2005, restByte, textByte, unknown, ruleOf}
+use Rattle.label.specs.Formats.{restByte, textByte}
 use Rattle.label.specs.Envelope.{Envelope, fields, wholeRest, segments, elements, text, counted}
 use Rattle.label.specs.Written.{pieceRow, parts}
 use Rattle.label.specs.ReadEnvelope.{Step, closed, whole, refuse, must, opened, valuedAt, valued, bodyAt, bodied, versionOf, readFields, readTransport, readRest, segmentsIn, areSegments, readSegments, readElements, readText, readPayload, readCounted}
@@ -328,21 +328,3 @@ shown-09 m at inside =
     (λ long.
     shown-valued 1 30 plain m (at + 1) long (λ t rest. valued compression rest λ c rest. valued count rest λ n rest. readPayload (value n) (counted 9 t c n) rest) (compressionFound m)
     (λ end is less. compression-step m (end + 1) (take (end - (at + 1)) (drop (at + 1) m)) (omega arith)))
-
--- a number that no arm takes has no format
-abbrev pub NoFormat : ℕ → Type 0
-NoFormat f = ((((((((Unit {0} × (f ≡ 1 → ⊥)) × (f ≡ 2 → ⊥)) × (f ≡ 3 → ⊥)) × (f ≡ 4 → ⊥)) × (f ≡ 5 → ⊥)) × (f ≡ 6 → ⊥)) × (f ≡ 7 → ⊥)) × (f ≡ 9 → ⊥))
-
-pub other-format : (f : ℕ) → NoFormat f → ruleOf edition2005 f ≡ unknown
-unfolding ruleOf
-other-format f none-of =
-    simp (
-      ne-eqb f 1 (none-of .0 .0 .0 .0 .0 .0 .0 .1),
-      ne-eqb f 2 (none-of .0 .0 .0 .0 .0 .0 .1),
-      ne-eqb f 3 (none-of .0 .0 .0 .0 .0 .1),
-      ne-eqb f 4 (none-of .0 .0 .0 .0 .1),
-      ne-eqb f 5 (none-of .0 .0 .0 .1),
-      ne-eqb f 6 (none-of .0 .0 .1),
-      ne-eqb f 7 (none-of .0 .1),
-      ne-eqb f 9 (none-of .1),
-    )

@@ -2,18 +2,10 @@
 -- lifetimes, arguments, answer, and what lent memory holds afterwards.
 use mathlib.Core.Path.{_≡_, sym, _∙_}
 use contract.Lifetimes.{Lfts}
-use Rattle.walk.proofs.first.Reads as first
-use Rattle.walk.proofs.next.Reads as next
 use Rattle.walk.proofs.kind_of.Reads as kind-of
 use Rattle.walk.proofs.shape_of.Reads as shape-of
 use Rattle.walk.proofs.standing_at.Reads as standing-at
 use Rattle.walk.proofs.count_from.Reads as count-from
-
-pub first-once : (κs : Lfts 1) (a : _) (r r′ : _) (s s′ : _) → first.Learnt κs a r s → first.Learnt κs a r′ s′ → r ≡ r′
-first-once κs a r r′ s s′ one two = one ∙ sym two
-
-pub next-once : (κs : Lfts 1) (a : _) (r r′ : _) (s s′ : _) → next.Learnt κs a r s → next.Learnt κs a r′ s′ → r ≡ r′
-next-once κs a r r′ s s′ one two = one ∙ sym two
 
 pub kind-of-once : (κs : Lfts 0) (a : _) (r r′ : _) (s s′ : _) → kind-of.Learnt κs a r s → kind-of.Learnt κs a r′ s′ → r ≡ r′
 kind-of-once κs a r r′ s s′ one two = one ∙ sym two

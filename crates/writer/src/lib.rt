@@ -25,13 +25,13 @@ fn same_rows(m: &[u8], rows: &[u32]) -> bool
     if exact::rows_of(m) != rows.len() / ROW {
         return false;
     }
-    let mut c = walk::first(m);
+    let mut c = steps::first(m);
     let mut i = 0;
     while i < rows.len() {
         if !given::like(c, rows, i) {
             return false;
         }
-        c = walk::next(m, c);
+        c = steps::next(m, c);
         i += ROW;
     }
     true

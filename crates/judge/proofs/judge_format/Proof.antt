@@ -2,7 +2,8 @@
 -- format says the rest.
 use Rattle.label.specs.Formats.{ruleOf}
 use Rattle.label.specs.ReadEnvelope.{readBy}
-use Rattle.judge.proofs.FormatLaws.{shown-01, shown-02, shown-03, shown-04, shown-05, shown-06, shown-07, shown-09, other-format}
+use Rattle.label.proofs.Digits.{other-format}
+use Rattle.judge.proofs.FormatLaws.{shown-01, shown-02, shown-03, shown-04, shown-05, shown-06, shown-07, shown-09}
 use borrow.Author.Needs.{needs}
 use Rattle.judge.proofs.judge_format.Statement.{statement}
 use Rattle.judge.proofs.judge_format.Tie as tie

@@ -1,6 +1,6 @@
 -- `shape_of` goes by the list of formats: a number in it has its rule's shape, any other is unknown.
 use Rattle.label.specs.Formats.{ruleOf}
-use Rattle.judge.proofs.FormatLaws.{other-format}
+use Rattle.label.proofs.Digits.{other-format}
 use Rattle.walk.proofs.shape_of.Statement.{statement}
 use Rattle.walk.proofs.shape_of.Tie as tie
 

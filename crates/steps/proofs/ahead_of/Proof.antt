@@ -1,8 +1,8 @@
 -- `ahead_of` is `ahead`: behind the end, inside, or up to the end.
 use borrow.Author.Needs.{needs}
 use Rattle.walk.proofs.Offsets.{ahead-past, ahead-inside, ahead-end}
-use Rattle.walk.proofs.ahead_of.Statement.{statement}
-use Rattle.walk.proofs.ahead_of.Tie as tie
+use Rattle.steps.proofs.ahead_of.Statement.{statement}
+use Rattle.steps.proofs.ahead_of.Tie as tie
 
 returns : tie.Need-returns
 returns c = ahead-past (c .before .args .m .now) (c .before .args .at) (c .before .args .n) (c .if1 .taken)

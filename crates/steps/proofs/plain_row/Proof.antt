@@ -1,8 +1,8 @@
 -- `plain_row` is as long as the run of plain bytes.
 use borrow.Author.Needs.{needs}
 use Rattle.walk.specs.Cursors.{plainRow}
-use Rattle.walk.proofs.plain_row.Statement.{statement}
-use Rattle.walk.proofs.plain_row.Tie as tie
+use Rattle.steps.proofs.plain_row.Statement.{statement}
+use Rattle.steps.proofs.plain_row.Tie as tie
 
 plain-run-requires : tie.Need-plain-run-requires
 plain-run-requires c κs = search needs

@@ -3,9 +3,9 @@ use Prim.Native.Nat.{_+_, _≤_}
 use native.Mathlib.Omega.{arith}
 use borrow.Author.Needs.{needs}
 use lib.ListN.{length, List·getD-eq-default}
 use Rattle.walk.specs.Cursors.{indicatorAt}
-use Rattle.walk.proofs.indicator_at.Statement.{statement}
-use Rattle.walk.proofs.indicator_at.Tie as tie
+use Rattle.steps.proofs.indicator_at.Statement.{statement}
+use Rattle.steps.proofs.indicator_at.Tie as tie
 
 returns : tie.Need-returns
 unfolding indicatorAt

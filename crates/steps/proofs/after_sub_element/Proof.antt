@@ -3,9 +3,9 @@ use mathlib.Core.Path.{sym, _∙_}
 use borrow.Author.Tests.{eq-eqb, ne-eqb}
 use borrow.Author.Needs.{needs}
 use Rattle.label.specs.Bytes.{GS, US}
 use Rattle.walk.specs.Cursors.{afterSubElement}
-use Rattle.walk.proofs.after_sub_element.Statement.{statement}
-use Rattle.walk.proofs.after_sub_element.Tie as tie
+use Rattle.steps.proofs.after_sub_element.Statement.{statement}
+use Rattle.steps.proofs.after_sub_element.Tie as tie
 
 ahead-of-requires : tie.Need-ahead-of-requires
 ahead-of-requires c κs = search needs

@@ -3,10 +3,10 @@ use mathlib.Core.Path.{sym, ap, _∙_}
 use native.Mathlib.Omega.{arith}
 use borrow.Author.Needs.{needs}
 use lib.ListN.{length-drop}
 use Rattle.walk.specs.declared.Stage.the-variants.{Body}
 use Rattle.walk.specs.Cursors.{standing}
-use Rattle.walk.proofs.rest_at.Statement.{statement}
-use Rattle.walk.proofs.rest_at.Tie as tie
+use Rattle.steps.proofs.rest_at.Statement.{statement}
+use Rattle.steps.proofs.rest_at.Tie as tie
 
 standing-at-requires : tie.Need-standing-at-requires
 standing-at-requires c κs = search needs

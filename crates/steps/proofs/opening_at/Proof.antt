@@ -1,9 +1,9 @@
 -- `opening_at` goes by the shape of the format.
 use mathlib.Core.Path.{sym, _∙_}
 use borrow.Author.Needs.{needs}
 use Rattle.walk.specs.Cursors.{opening}
-use Rattle.walk.proofs.opening_at.Statement.{statement}
-use Rattle.walk.proofs.opening_at.Tie as tie
+use Rattle.steps.proofs.opening_at.Statement.{statement}
+use Rattle.steps.proofs.opening_at.Tie as tie
 
 ahead-of-requires : tie.Need-ahead-of-requires
 ahead-of-requires c κs = search needs

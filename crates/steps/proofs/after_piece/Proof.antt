@@ -3,9 +3,9 @@ use mathlib.Core.Path.{sym, _∙_}
 use borrow.Author.Tests.{eq-eqb, ne-eqb}
 use borrow.Author.Needs.{needs}
 use Rattle.label.specs.Bytes.{GS}
 use Rattle.walk.specs.Cursors.{afterPiece}
-use Rattle.walk.proofs.after_piece.Statement.{statement}
-use Rattle.walk.proofs.after_piece.Tie as tie
+use Rattle.steps.proofs.after_piece.Statement.{statement}
+use Rattle.steps.proofs.after_piece.Tie as tie
 
 ahead-of-requires : tie.Need-ahead-of-requires
 ahead-of-requires c κs = search needs

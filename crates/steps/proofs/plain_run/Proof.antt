@@ -8,10 +8,10 @@ use borrow.Author.Tests.{not-true, not-false}
 use lib.ListN.{length, drop}
 use Rattle.label.specs.Bytes.{plain}
 use Rattle.leaves.proofs.Turns.{drop-past}
 use Rattle.walk.specs.Cursors.{plainRun}
 use Rattle.walk.proofs.Offsets.{run-by}
-use Rattle.walk.proofs.plain_run.Statement.{statement}
-use Rattle.walk.proofs.plain_run.Tie as tie
+use Rattle.steps.proofs.plain_run.Statement.{statement}
+use Rattle.steps.proofs.plain_run.Tie as tie
 
 abbrev Inv-loop : tie.InvT-loop
 Inv-loop m at i₀ i = (at ≤ i) × (i + plainRun (drop i m) ≡ at + plainRun (drop at m))

@@ -1,8 +1,8 @@
 -- `next` goes by the stage.
 use borrow.Author.Needs.{needs}
 use Rattle.walk.specs.Cursors.{following, nextCursor}
-use Rattle.walk.proofs.next.Statement.{statement}
-use Rattle.walk.proofs.next.Tie as tie
+use Rattle.steps.proofs.next.Statement.{statement}
+use Rattle.steps.proofs.next.Tie as tie
 
 ahead-of-requires : tie.Need-ahead-of-requires
 ahead-of-requires c κs = search needs

@@ -1,8 +1,8 @@
 -- `text_at` goes to the first RS.
 use native.Mathlib.Nat.{add-sub-cancel-left}
 use borrow.Author.Needs.{needs}
-use Rattle.walk.proofs.text_at.Statement.{statement}
-use Rattle.walk.proofs.text_at.Tie as tie
+use Rattle.steps.proofs.text_at.Statement.{statement}
+use Rattle.steps.proofs.text_at.Tie as tie
 
 find-far-requires : tie.Need-find-far-requires
 find-far-requires c κs = search needs

@@ -3,9 +3,9 @@ use mathlib.Core.Path.{sym, _∙_}
 use borrow.Author.Tests.{eq-eqb, ne-eqb}
 use borrow.Author.Needs.{needs}
 use Rattle.label.specs.Bytes.{RS}
 use Rattle.walk.specs.Cursors.{afterSegment}
-use Rattle.walk.proofs.after_segment.Statement.{statement}
-use Rattle.walk.proofs.after_segment.Tie as tie
+use Rattle.steps.proofs.after_segment.Statement.{statement}
+use Rattle.steps.proofs.after_segment.Tie as tie
 
 byte-at-requires : tie.Need-byte-at-requires
 byte-at-requires c κs = search needs

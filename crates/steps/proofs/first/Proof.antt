@@ -1,8 +1,8 @@
 -- `first` stands at the indicator behind the header.
 use borrow.Author.Needs.{needs}
 use Rattle.walk.specs.Cursors.{firstCursor}
-use Rattle.walk.proofs.first.Statement.{statement}
-use Rattle.walk.proofs.first.Tie as tie
+use Rattle.steps.proofs.first.Statement.{statement}
+use Rattle.steps.proofs.first.Tie as tie
 
 indicator-at-requires : tie.Need-indicator-at-requires
 indicator-at-requires c κs = search needs
