@@ -15,7 +15,7 @@ use Rattle.noted.proofs.Copying.{put-behind}
 use Rattle.walk.specs.declared.Cursor.{Cursor}
 use Rattle.walk.specs.Cursors.{rowOf, firstCursor, nextCursor}
 use Rattle.walk.proofs.Walks.{Yields}
-use Rattle.exact.proofs.Standing.{rows-here, yields-next, holds-here}
+use Rattle.walk.proofs.Standing.{rows-here, yields-next, holds-here}
 
 pub all-numbers-append : (rs rs′ : List Row) → allNumbers (rs ++ rs′) ≡ allNumbers rs ++ allNumbers rs′
 all-numbers-append [] rs′ = refl

@@ -1,4 +1,3 @@
-pub mod Standing
 pub mod Filling
 pub mod ReadLaws
 pub mod OneOutcome

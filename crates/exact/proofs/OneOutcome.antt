@@ -5,14 +5,6 @@ use contract.Lifetimes.{Lfts}
 use denote.Ref.{now}
 use Rattle.label.proofs.Numbers.{readings-by-answer}
 use Rattle.exact.proofs.table.read_exactly.Reads as read-exactly
-use Rattle.exact.proofs.parts.rows_of.Reads as rows-of
-use Rattle.exact.proofs.parts.stretch_exactly.Reads as stretch-exactly
 
 pub read-exactly-once : (κs : Lfts 2) (a : _) (r r′ : _) (s s′ : _) → read-exactly.Learnt κs a r s → read-exactly.Learnt κs a r′ s′ → (r ≡ r′) × (now (s .1 .0) ≡ now (s′ .1 .0))
 read-exactly-once κs a r r′ s s′ one two = (readings-by-answer r r′ (one .0 ∙ sym (two .0)), one .1 ∙ sym (two .1))
-
-pub rows-of-once : (κs : Lfts 1) (a : _) (r r′ : _) (s s′ : _) → rows-of.Learnt κs a r s → rows-of.Learnt κs a r′ s′ → r ≡ r′
-rows-of-once κs a r r′ s s′ one two = one ∙ sym two
-
-pub stretch-exactly-once : (κs : Lfts 1) (a : _) (r r′ : _) (s s′ : _) → stretch-exactly.Learnt κs a r s → stretch-exactly.Learnt κs a r′ s′ → r ≡ r′
-stretch-exactly-once κs a r r′ s s′ one two = λ i. record { start = (one .from ∙ sym (two .from)) i; length = (one .measures ∙ sym (two .measures)) i }

@@ -19,6 +19,7 @@ use Rattle.label.specs.ReadMessage.{Outcome, read, refused, reading}
 use Rattle.label.specs.Answer.{accepted, refusal, roomOf, answered, readAnswer, overlaid, filled, tableAfter, rowsRead}
 use Rattle.judge.specs.Shown.{judgedAs}
 use Rattle.judge.proofs.BodyLaws.{cond-yes, cond-no}
+use Rattle.judge.proofs.Judged.{rows-judged}
 use Rattle.exact.specs.Tables.{Room}
 
 -- what a caller has: an answer, and a table
@@ -33,10 +34,6 @@ record ToldBy (o : Outcome) (table after answer : List ℕ) : Type 0 where
 told : (m : Bytes) (table after answer : List ℕ) → ToldBy (reading edition2005 m) table after answer → Told m table after answer
 unfolding readAnswer tableAfter
 told m table after answer by = record { answered-so = by .answered-so; filled-so = by .filled-so }
-
-rows-by : (o : Outcome) (counts : Counts) → judgedAs o ≡ Accepted counts → counts .rows ≡ length (rowsRead o)
-rows-by (read es) counts says = let is : record { envelopes = length es; rows = length (rowsOf es) } ≡ counts = cc in sym (ap (λ (c : Counts). c .rows) is)
-rows-by (refused r p) counts says = let z : _≡_ {A = ℕ} 0 1 = cc in absurd (omega arith)
 
 accepted-by : (o : Outcome) (counts : Counts) (table : List ℕ) → judgedAs o ≡ Accepted counts
     → ToldBy o table (cond (ltb (roomOf table) (counts .rows)) table (overlaid (allNumbers (rowsRead o)) table)) (cond (ltb (roomOf table) (counts .rows)) (refusal NoRoom 0) (accepted (counts .envelopes) (counts .rows)))
@@ -53,16 +50,6 @@ refused-by (read es) r table says = let z : _≡_ {A = ℕ} 0 1 = cc in record {
 refused-by (refused reason place) r table says =
     let is : record { reason = reason; place = place } ≡ r = cc in
     record { answered-so = sym (ap (λ (f : Refusal). refusal (f .reason) (f .place)) is); filled-so = refl }
-
-none-by : (o : Outcome) (r : Refusal) → judgedAs o ≡ Refused r → 0 ≡ length (rowsRead o)
-none-by (read es) r says = let z : _≡_ {A = ℕ} 0 1 = cc in absurd (omega arith)
-none-by (refused reason place) r says = refl
-
-pub rows-judged : (m : Bytes) (counts : Counts) → judgedAs (reading edition2005 m) ≡ Accepted counts → counts .rows ≡ length (rowsRead (reading edition2005 m))
-rows-judged m counts says = rows-by (reading edition2005 m) counts says
-
-pub none-judged : (m : Bytes) (r : Refusal) → judgedAs (reading edition2005 m) ≡ Refused r → 0 ≡ length (rowsRead (reading edition2005 m))
-none-judged m r says = none-by (reading edition2005 m) r says
 
 module _ (m : Bytes) (table : List ℕ) where
   pub room-for : (counts : Counts) → judgedAs (reading edition2005 m) ≡ Accepted counts → counts .rows ≤ roomOf table → Room m (counts .rows) table

@@ -7,4 +7,5 @@ pub mod FormatLaws
 pub mod RowBounds
 pub mod WalkLaws
 pub mod JudgeLaws
+pub mod Judged
 pub mod OneOutcome

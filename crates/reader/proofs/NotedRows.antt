@@ -22,15 +22,17 @@ use Rattle.label.specs.Answer.{accepted, refusal, roomOf, overlaid, rowsRead}
 use Rattle.noted.specs.Noted.{answerFrom, tableFrom, stretchFrom}
 use Rattle.noted.proofs.Copying.{four-from}
 use Rattle.walk.specs.Cursors.{rowOf}
-use Rattle.exact.specs.Stretches.{Lies}
+use Rattle.stretches.specs.Stretches.{Lies}
 use Rattle.reader.specs.declared.quick.message.Swept.{Swept}
 use Rattle.reader.specs.declared.quick.message.Swept.the-variants.{Good}
 use Rattle.reader.specs.Quick.{cursorAfter, Holds, Kept, SweptSo, Handed, OneKept}
 use Rattle.walk.proofs.Walks.{Yields}
 use Rattle.walk.proofs.Promises.{walked}
-use Rattle.exact.proofs.Standing.{rows-here, yields-next, lies-here, lies-nowhere}
+use Rattle.walk.proofs.Standing.{rows-here, yields-next}
+use Rattle.judge.proofs.Judged.{rows-judged}
+use Rattle.stretches.proofs.Lying.{lies-here, lies-nowhere}
 use Rattle.exact.proofs.Filling.{all-numbers-append}
-use Rattle.exact.proofs.ReadLaws.{Told, rows-judged, is-accepted}
+use Rattle.exact.proofs.ReadLaws.{Told, is-accepted}
 
 -- a row's numbers, read off
 held-numbers : (ns : List ℕ) (at : ℕ) (r : Row) → Holds ns at r → getD ns at 0 ∷ getD ns (at + 1) 0 ∷ getD ns (at + 2) 0 ∷ getD ns (at + 3) 0 ∷ [] ≡ numbers r

@@ -10,7 +10,7 @@ ghost use mathlib.Core.Path.{_≡_};
 ghost use lib.ListN.{take, drop};
 ghost use Rattle.label.specs.Formats.{edition2005};
 ghost use Rattle.label.specs.Part.{partOf};
-ghost use Rattle.exact.specs.Stretches.{Lies};
+ghost use Rattle.stretches.specs.Stretches.{Lies};
 
 // Where a row's part lies; the empty start where there is no such row. The quick path notes this row alone.
 pub fn stretch_of(m: &[u8], row: usize) -> Stretch
@@ -27,7 +27,7 @@ pub fn stretch_of(m: &[u8], row: usize) -> Stretch
     );
     match swept {
         Swept::Good(counts) => noted::stretch_noted(row, counts.rows, &note),
-        _ => exact::stretch_exactly(m, row),
+        _ => stretches::stretch_exactly(m, row),
     }
 }
 

@@ -22,7 +22,7 @@ use Rattle.walk.specs.declared.Cursor.{Cursor}
 use Rattle.walk.specs.Cursors.{rowOf, nextCursor}
 use Rattle.leaves.proofs.Turns.{drop-past}
 use Rattle.walk.proofs.Walks.{Yields}
-use Rattle.exact.proofs.Standing.{rows-here, yields-next}
+use Rattle.walk.proofs.Standing.{rows-here, yields-next}
 use Rattle.writer.specs.Given.{Whole, rowFrom, alikeRow, alike}
 use Rattle.writer.proofs.GivenLaws.{rows-step, rows-past, next-whole}
 

@@ -22,7 +22,7 @@ fn same_rows(m: &[u8], rows: &[u32]) -> bool
     requires { ⌜ Whole (now rows) ⌝ }
     ensures { λ r. ⌜ r ≡ alike (rowsRead (reading edition2005 (now (m .entry)))) (rowsIn (now (rows .entry))) ⌝ }
 {
-    if exact::rows_of(m) != rows.len() / ROW {
+    if stretches::rows_of(m) != rows.len() / ROW {
         return false;
     }
     let mut c = steps::first(m);

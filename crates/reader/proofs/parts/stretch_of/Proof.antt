@@ -2,7 +2,7 @@
 use mathlib.Core.Path.{sym, subst}
 use native.Mathlib.Omega.{arith}
 use Rattle.label.specs.declared.Stretch.{Stretch}
-use Rattle.exact.specs.Stretches.{Lies}
+use Rattle.stretches.specs.Stretches.{Lies}
 use Rattle.reader.proofs.NotedRows.{one-kept, lies-as-noted}
 use borrow.Author.Needs.{needs}
 use Rattle.reader.proofs.parts.stretch_of.Statement.{statement}

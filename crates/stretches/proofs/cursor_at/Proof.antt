@@ -8,12 +8,13 @@ use Rattle.label.specs.Formats.{edition2005}
 use Rattle.label.specs.ReadMessage.{reading}
 use Rattle.label.specs.Answer.{rowsRead}
 use Rattle.walk.specs.declared.Cursor.{Cursor}
-use Rattle.exact.specs.Stretches.{Lies}
+use Rattle.stretches.specs.Stretches.{Lies}
 use Rattle.walk.proofs.Walks.{Yields}
 use Rattle.walk.proofs.Promises.{walked}
-use Rattle.exact.proofs.Standing.{yields-next, lies-here}
-use Rattle.exact.proofs.parts.cursor_at.Statement.{statement}
-use Rattle.exact.proofs.parts.cursor_at.Tie as tie
+use Rattle.walk.proofs.Standing.{yields-next}
+use Rattle.stretches.proofs.Lying.{lies-here}
+use Rattle.stretches.proofs.cursor_at.Statement.{statement}
+use Rattle.stretches.proofs.cursor_at.Tie as tie
 
 abbrev Inv-loop : tie.InvT-loop
 Inv-loop m row c₀ i₀ c i = (i ≤ row) × Yields m c (drop i (rowsRead (reading edition2005 m)))

@@ -1,9 +1,9 @@
 -- `rows_of` answers the count that the judgement has, and none for a refusal.
 use mathlib.Core.Path.{sym, _∙_}
 use borrow.Author.Needs.{needs}
-use Rattle.exact.proofs.ReadLaws.{rows-judged, none-judged}
-use Rattle.exact.proofs.parts.rows_of.Statement.{statement}
-use Rattle.exact.proofs.parts.rows_of.Tie as tie
+use Rattle.judge.proofs.Judged.{rows-judged, none-judged}
+use Rattle.stretches.proofs.rows_of.Statement.{statement}
+use Rattle.stretches.proofs.rows_of.Tie as tie
 
 judge-requires : tie.Need-judge-requires
 judge-requires c κs = search needs

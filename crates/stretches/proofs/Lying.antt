@@ -1,49 +1,23 @@
--- Where a cursor stands that yields the rows from number i on: at the row of that number, and one step further it yields the rows behind that.
+-- Where a row's part lies: where the walk's cursor stands after as many steps as the row's number, and at the empty start where there is no such row.
 use Prim.Native.Nat.{ℕ, zero, suc, _+_, _≤_, _<_, min}
-use mathlib.Core.Path.{_≡_, refl, sym, ap, _∙_, subst}
+use mathlib.Core.Path.{_≡_, refl, sym, ap, _∙_}
 use mathlib.Core.List.{List, [], _∷_}
-use native.Mathlib.Numerals.{add-one}
 use native.Mathlib.Omega.{arith}
-use lib.ListN.{length, getD, drop}
-use lib.Seq.{drop-cons}
+use lib.ListN.{length, drop}
 use Rattle.label.specs.declared.Stretch.{Stretch}
 use Rattle.label.specs.Bytes.{Bytes}
 use Rattle.label.specs.Limits.{longest}
 use Rattle.label.specs.Formats.{edition2005}
 use Rattle.label.specs.Layout.{Row}
-use Rattle.label.specs.Message.{Each}
 use Rattle.label.specs.ReadMessage.{reading}
 use Rattle.label.specs.Answer.{rowsRead}
 use Rattle.label.specs.Part.{stretchAt, partOf}
 use Rattle.leaves.proofs.Turns.{drop-past}
 use Rattle.walk.specs.declared.Cursor.{Cursor}
-use Rattle.walk.specs.Cursors.{rowOf, nextCursor}
-use Rattle.exact.specs.Stretches.{Lies}
+use Rattle.stretches.specs.Stretches.{Lies}
 use Rattle.walk.proofs.Walks.{Yields}
+use Rattle.walk.proofs.Standing.{rows-here, holds-here}
 use Rattle.walk.proofs.Promises.{walked}
-
--- what holds of each row holds of each from number i on
-each-from : (Fact : Row → Type 0) (i : ℕ) (rows : List Row) → Each Fact rows → Each Fact (drop i rows)
-each-from Fact zero rows each = each
-each-from Fact (suc i) [] each = tt
-each-from Fact (suc i) (r ∷ rows) each = each-from Fact i rows (each .1)
-
-module _ (m : Bytes) (rows : List Row) (c : Cursor) (i : ℕ) (yields : Yields m c (drop i rows)) (more : i < length rows) where
-  from-here : drop i rows ≡ getD rows i (rowOf c) ∷ drop (i + 1) rows
-  from-here = rw (add-one, drop-cons rows i (rowOf c))
-
-  yields-here : Yields m c (getD rows i (rowOf c) ∷ drop (i + 1) rows)
-  yields-here = subst (Yields m c) from-here yields
-
-  pub rows-here : drop i rows ≡ rowOf c ∷ drop (i + 1) rows
-  rows-here = from-here ∙ ap (λ r. r ∷ drop (i + 1) rows) (sym (yields-here .0))
-
-  pub yields-next : Yields m (nextCursor m c) (drop (i + 1) rows)
-  yields-next = yields-here .1
-
-  -- what holds of each row holds of the one that it stands at
-  pub holds-here : (Fact : Row → Type 0) → Each Fact rows → Fact (rowOf c)
-  holds-here Fact each = subst (Each Fact) rows-here (each-from Fact i rows each) .0
 
 -- a row's stretch is the first of the rows from its number on
 stretch-first : (rows : List Row) (i : ℕ) → stretchAt rows i ≡ stretchAt (drop i rows) 0

@@ -3,10 +3,10 @@ use mathlib.Core.Path.{sym, subst}
 use native.Mathlib.Omega.{arith}
 use borrow.Author.Needs.{needs}
 use Rattle.label.specs.declared.Stretch.{Stretch}
-use Rattle.exact.specs.Stretches.{Lies}
-use Rattle.exact.proofs.Standing.{lies-nowhere}
-use Rattle.exact.proofs.parts.stretch_exactly.Statement.{statement}
-use Rattle.exact.proofs.parts.stretch_exactly.Tie as tie
+use Rattle.stretches.specs.Stretches.{Lies}
+use Rattle.stretches.proofs.Lying.{lies-nowhere}
+use Rattle.stretches.proofs.stretch_exactly.Statement.{statement}
+use Rattle.stretches.proofs.stretch_exactly.Tie as tie
 
 rows-of-requires : tie.Need-rows-of-requires
 rows-of-requires c κs = search needs

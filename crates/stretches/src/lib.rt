@@ -1,4 +1,4 @@
-// How many rows are read in a message, and where a row's part lies, by the exact reader.
+// How many rows are read in a message, and where a row's part lies, by the exact reader's passes: judge, then walk.
 use label::Reading;
 use label::Stretch;
 use steps::first;
@@ -10,7 +10,7 @@ ghost use lib.ListN.{length};
 ghost use Rattle.label.specs.Formats.{edition2005};
 ghost use Rattle.label.specs.ReadMessage.{reading};
 ghost use Rattle.label.specs.Answer.{rowsRead};
-ghost use Rattle.exact.specs.Stretches.{Lies};
+ghost use Rattle.stretches.specs.Stretches.{Lies};
 
 // How many rows are read in a message, in a refused one none.
 pub fn rows_of(m: &[u8]) -> usize
