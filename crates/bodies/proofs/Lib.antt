@@ -1,7 +1,3 @@
-pub mod ElementLaws
-pub mod TagLaws
-pub mod SeekLaws
-pub mod FieldLaws
 pub mod PieceLaws
 pub mod RuleLaws
 pub mod OneOutcome

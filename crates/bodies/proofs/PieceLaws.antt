@@ -13,8 +13,8 @@ use Rattle.label.specs.Pieces.{pieceWith, pieces, lastIsEmpty}
 use Rattle.label.proofs.Splitting.{pieces-one, pieces-front, pieces-some, last-of-terminated}
 use Rattle.leaves.specs.Seek.{seek}
 use Rattle.leaves.proofs.Turns.{and-assoc, and-true}
+use Rattle.pieces.proofs.SeekLaws.{seek-free, seek-found, seek-absent}
 use Rattle.bodies.specs.Kinds.{everyFrom}
-use Rattle.bodies.proofs.SeekLaws.{seek-free, seek-found, seek-absent}
 
 -- two tests of orders that say the same
 pub leb-same : (a b c d : ℕ) → (a ≤ b → c ≤ d) → (c ≤ d → a ≤ b) → leb a b ≡ leb c d

@@ -2,20 +2,19 @@
 use Prim.Native.Nat.{ℕ, _+_, _-_}
 use mathlib.Core.Bool.{Bool, true, not, _&&_, _||_}
 use mathlib.Core.List.{List, [], _∷_}
-use lib.ListN.{length, take, getD}
+use lib.ListN.{length, take}
 use lib.Dec.{leb, ltb, eqb}
-use Rattle.label.specs.Bytes.{Bytes, FS, GS, US, plain, every, isEmpty}
+use Rattle.label.specs.Bytes.{Bytes, FS, GS, US, every}
 use Rattle.label.specs.Pieces.{pieces, lastIsEmpty}
-use Rattle.label.specs.Limits.{limitOf, longAs}
 use Rattle.label.specs.Values.{version02, version96}
 use Rattle.label.specs.Elements.{element05, element06}
 use Rattle.label.specs.Segments.{tag, tag03}
-use Rattle.label.specs.Fields.{fieldBytes, leastFields, field, transport}
+use Rattle.label.specs.Fields.{leastFields, transport}
 use Rattle.label.specs.Formats.{textByte}
 use Rattle.label.specs.ReadEnvelope.{plainOrGS, segmentByte, areSegments}
-use Rattle.leaves.specs.Seek.{seek, tallyOf}
-use Rattle.bodies.specs.declared.Kind.{Kind}
-use Rattle.bodies.specs.declared.Kind.the-variants.{Fields02, Fields96, Segments03, Segments04, Elements05, Elements06, Text}
+use Rattle.leaves.specs.Seek.{tallyOf}
+use Rattle.pieces.specs.declared.Kind.{Kind}
+use Rattle.pieces.specs.declared.Kind.the-variants.{Fields02, Fields96, Segments03, Segments04, Elements05, Elements06, Text}
 
 abbrev pub permittedOf : Kind → ℕ → Bool
 permittedOf Fields02 = plainOrGS
@@ -45,11 +44,7 @@ rowsOfBody Elements05 body = tallyOf GS body + 1
 rowsOfBody Elements06 body = tallyOf GS body + 1
 rowsOfBody Text body = 1
 
--- a field by the row of its version in the limits
-abbrev pub fieldIn : ℕ → ℕ → Bytes → Bool
-fieldIn row i bs = longAs (limitOf row i) bs && getD fieldBytes i (every plain) bs || leb leastFields i && isEmpty bs
-
--- at which byte a body is cut into pieces, and what is asked of the piece with an index
+-- at which byte a body is cut into pieces
 abbrev pub separatorOf : Kind → ℕ
 separatorOf Fields02 = GS
 separatorOf Fields96 = GS
@@ -58,15 +53,6 @@ separatorOf Segments04 = FS
 separatorOf Elements05 = GS
 separatorOf Elements06 = GS
 separatorOf Text = GS
-
-abbrev pub pieceTest : Kind → ℕ → Bytes → Bool
-pieceTest Fields02 i p = field version02 i p
-pieceTest Fields96 i p = field version96 i p
-pieceTest Segments03 i p = tag03 (take (seek GS p) p)
-pieceTest Segments04 i p = tag (take (seek GS p) p)
-pieceTest Elements05 i p = element05 p
-pieceTest Elements06 i p = element06 p
-pieceTest Text i p = true
 
 -- a test of each piece and its index, from an index on
 abbrev pub everyFrom : (ℕ → Bytes → Bool) → ℕ → List Bytes → Bool

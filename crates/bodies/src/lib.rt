@@ -1,9 +1,5 @@
 // Whether a body keeps its format's rules (01, Envelope rules and Transport fields), and how many rows it has. A body is the stretch
-// before an RS whose bytes are permitted; the functions take every stretch.
-mod elements;
-mod fields;
-mod segments;
-
+// before an RS whose bytes are permitted; the functions take every stretch. What is asked of one of its pieces is said in `pieces`.
 use label::LEAST_FIELDS;
 use label::MOST_FIELDS_02;
 use label::MOST_FIELDS_96;
@@ -11,24 +7,15 @@ use leaves::Class;
 use leaves::FS;
 use leaves::GS;
 use leaves::US;
+use pieces::Kind;
 ghost use mathlib.Core.Path.{_≡_};
 ghost use Rattle.label.specs.Pieces.{pieces, lastIsEmpty};
 ghost use Rattle.leaves.specs.Classes.{classOf};
-ghost use Rattle.bodies.specs.Kinds.{permittedOf, rulesOf, rowsOfBody, separatorOf, pieceTest, everyFrom, fieldsOf, segmentsOf};
+ghost use Rattle.pieces.specs.PieceTests.{pieceTest};
+ghost use Rattle.bodies.specs.Kinds.{permittedOf, rulesOf, rowsOfBody, separatorOf, everyFrom, fieldsOf, segmentsOf};
 
 // A separator less than there are pieces.
 const LEAST_SEPARATORS: usize = LEAST_FIELDS - 1;
-
-// A body that runs to an RS, by its format, and for 01 its version.
-pub enum Kind {
-    Fields02,
-    Fields96,
-    Segments03,
-    Segments04,
-    Elements05,
-    Elements06,
-    Text,
-}
 
 // The class of the bytes that are permitted.
 pub fn permitted(k: Kind) -> Class
@@ -60,21 +47,6 @@ fn separator(k: Kind) -> u8
     }
 }
 
-// What is asked of the piece with an index.
-pub fn piece_holds(k: Kind, i: usize, p: &[u8]) -> bool
-    ensures { λ r. ⌜ r ≡ pieceTest k i (now (p .entry)) ⌝ }
-{
-    match k {
-        Kind::Fields02 => fields::field_holds(0, i, p),
-        Kind::Fields96 => fields::field_holds(1, i, p),
-        Kind::Segments03 => segments::segment_03(p),
-        Kind::Segments04 => segments::segment_04(p),
-        Kind::Elements05 => elements::element_05(p),
-        Kind::Elements06 => elements::element_06(p),
-        Kind::Text => true,
-    }
-}
-
 // Whether each piece is as asked: one sweep, a piece a turn.
 fn pieces_hold(k: Kind, s: &[u8]) -> bool
     ensures { λ r. ⌜ r ≡ everyFrom (pieceTest k) 0 (pieces (separatorOf k) (now (s .entry))) ⌝ }
@@ -85,7 +57,7 @@ fn pieces_hold(k: Kind, s: &[u8]) -> bool
     let mut at = 0;
     while at <= s.len() {
         let end = leaves::find(s, at, c);
-        ok = ok & piece_holds(k, i, &s[at..end]);
+        ok = ok & pieces::piece_holds(k, i, &s[at..end]);
         i += 1;
         at = end + 1;
     }

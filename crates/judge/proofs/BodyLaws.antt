@@ -9,8 +9,8 @@ use lib.Dec.{ltb}
 use Rattle.label.specs.declared.Reason.the-variants.{ByteNotPermitted, BodyBreaksRules, NoRecordSeparator}
 use Rattle.label.specs.Bytes.{Bytes, GS, RS, every}
 use Rattle.leaves.specs.Seek.{seek}
-use Rattle.bodies.specs.declared.Kind.{Kind}
-use Rattle.bodies.specs.declared.Kind.the-variants.{Fields02, Fields96, Segments03, Segments04, Elements05, Elements06, Text}
+use Rattle.pieces.specs.declared.Kind.{Kind}
+use Rattle.pieces.specs.declared.Kind.the-variants.{Fields02, Fields96, Segments03, Segments04, Elements05, Elements06, Text}
 use Rattle.bodies.specs.Kinds.{permittedOf, rulesOf, rowsOfBody}
 use Rattle.bodies.proofs.RuleLaws.{rows-inside, tally-inside}
 use Rattle.judge.specs.declared.Found.{Found}

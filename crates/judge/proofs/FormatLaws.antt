@@ -26,10 +26,10 @@ use Rattle.label.proofs.Tests.{both, and-both}
 use Rattle.label.proofs.EnvelopeSound.{version-so}
 use Rattle.label.proofs.ReadingSound.{begins}
 use Rattle.leaves.specs.Seek.{seek, tallyOf}
-use Rattle.bodies.specs.declared.Kind.{Kind}
-use Rattle.bodies.specs.declared.Kind.the-variants.{Fields02, Fields96, Segments03, Segments04, Elements05, Elements06, Text}
+use Rattle.pieces.specs.declared.Kind.{Kind}
+use Rattle.pieces.specs.declared.Kind.the-variants.{Fields02, Fields96, Segments03, Segments04, Elements05, Elements06, Text}
+use Rattle.pieces.proofs.SeekLaws.{cut-found, cut-absent}
 use Rattle.bodies.specs.Kinds.{permittedOf, rulesOf, rowsOfBody}
-use Rattle.bodies.proofs.SeekLaws.{cut-found, cut-absent}
 use Rattle.bodies.proofs.RuleLaws.{pieces-count}
 use Rattle.bodies.proofs.PieceLaws.{leb-same}
 use Rattle.judge.specs.declared.Found.{Found}

@@ -13,7 +13,7 @@ use Rattle.label.specs.Bytes.{Bytes, FS, GS, RS, US, capitalOrDigit, every}
 use Rattle.label.specs.Values.{releaseLength}
 use Rattle.label.specs.ReadMessage.{agreement}
 use Rattle.label.proofs.Tests.{and-both}
-use Rattle.bodies.specs.declared.Kind.{Kind}
+use Rattle.pieces.specs.declared.Kind.{Kind}
 use Rattle.judge.specs.declared.Found.the-variants.{Closed, Refused}
 use Rattle.judge.specs.Bodies.{bodyFound}
 use Rattle.judge.specs.Formats.{beginsAt, segmentsFound, payloadFound}

@@ -6,7 +6,7 @@ use lib.Dec.{ltb}
 use Rattle.label.specs.declared.Reason.the-variants.{ByteNotPermitted, BodyBreaksRules, NoRecordSeparator}
 use Rattle.label.specs.Bytes.{Bytes, RS, every}
 use Rattle.leaves.specs.Seek.{seek}
-use Rattle.bodies.specs.declared.Kind.{Kind}
+use Rattle.pieces.specs.declared.Kind.{Kind}
 use Rattle.bodies.specs.Kinds.{permittedOf, rulesOf, rowsOfBody}
 use Rattle.judge.specs.declared.Found.{Found}
 use Rattle.judge.specs.declared.Found.the-variants.{Closed, Refused}

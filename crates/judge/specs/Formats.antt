@@ -10,8 +10,8 @@ use Rattle.label.specs.Bytes.{Bytes, ascii, FS, GS, RS, US, plain, digit, capit
 use Rattle.label.specs.Formats.{restByte}
 use Rattle.label.specs.Values.{releaseLength, value, typeLength, compressionLength, countLength}
 use Rattle.label.specs.ReadMessage.{agreement}
-use Rattle.bodies.specs.declared.Kind.{Kind}
-use Rattle.bodies.specs.declared.Kind.the-variants.{Fields02, Fields96}
+use Rattle.pieces.specs.declared.Kind.{Kind}
+use Rattle.pieces.specs.declared.Kind.the-variants.{Fields02, Fields96}
 use Rattle.judge.specs.declared.Found.{Found}
 use Rattle.judge.specs.declared.Found.the-variants.{Closed, Whole, Refused}
 use Rattle.judge.specs.Bodies.{bodyFound}

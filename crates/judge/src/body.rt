@@ -1,8 +1,8 @@
 // Bodies that run to the first RS: 12, then 10, then 11.
 use crate::Found;
-use bodies::Kind;
 use label::Reason;
 use leaves::RS;
+use pieces::Kind;
 ghost use mathlib.Core.Path.{_≡_};
 ghost use Prim.Native.Nat.{_≤_};
 ghost use lib.ListN.{length};

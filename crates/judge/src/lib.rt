@@ -4,7 +4,6 @@ mod envelopes;
 mod format;
 mod header;
 
-use bodies::Kind;
 use label::HEADER;
 use label::HEADER_LENGTH;
 use label::LONGEST;
@@ -12,6 +11,7 @@ use label::MOST_ROWS;
 use label::Reading;
 use label::Reason;
 use label::Refusal;
+use pieces::Kind;
 ghost use mathlib.Core.Path.{_≡_};
 ghost use Prim.Native.Nat.{_≤_};
 ghost use lib.ListN.{length, drop};

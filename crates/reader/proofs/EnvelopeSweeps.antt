@@ -18,9 +18,9 @@ use Rattle.label.specs.ReadMessage.{agreement}
 use Rattle.label.proofs.Tests.{and-both}
 use Rattle.leaves.specs.Seek.{seek}
 use Rattle.leaves.proofs.Turns.{drop-step}
-use Rattle.bodies.specs.declared.Kind.{Kind}
-use Rattle.bodies.specs.declared.Kind.the-variants.{Fields02, Fields96, Segments03, Segments04, Elements05, Elements06, Text}
-use Rattle.bodies.proofs.SeekLaws.{seek-found}
+use Rattle.pieces.specs.declared.Kind.{Kind}
+use Rattle.pieces.specs.declared.Kind.the-variants.{Fields02, Fields96, Segments03, Segments04, Elements05, Elements06, Text}
+use Rattle.pieces.proofs.SeekLaws.{seek-found}
 use Rattle.judge.specs.declared.Found.the-variants.{Closed, Refused}
 use Rattle.judge.specs.Shown.{shown}
 use Rattle.judge.specs.Headers.{indicatorOf}

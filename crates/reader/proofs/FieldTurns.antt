@@ -16,9 +16,10 @@ use Rattle.label.specs.ReadEnvelope.{plainOrGS}
 use Rattle.label.proofs.Splitting.{pieces-some, pieces-one, pieces-front}
 use Rattle.leaves.specs.Seek.{seek, tallyOf}
 use Rattle.leaves.proofs.Turns.{tally-behind}
-use Rattle.bodies.specs.declared.Kind.{Kind}
-use Rattle.bodies.specs.declared.Kind.the-variants.{Fields02, Fields96, Segments03, Segments04, Elements05, Elements06, Text}
-use Rattle.bodies.specs.Kinds.{pieceTest, everyFrom}
+use Rattle.pieces.specs.declared.Kind.{Kind}
+use Rattle.pieces.specs.declared.Kind.the-variants.{Fields02, Fields96, Segments03, Segments04, Elements05, Elements06, Text}
+use Rattle.pieces.specs.PieceTests.{pieceTest}
+use Rattle.bodies.specs.Kinds.{everyFrom}
 use Rattle.bodies.proofs.RuleLaws.{fields-law}
 use Rattle.judge.specs.declared.Found.{Found}
 use Rattle.judge.specs.declared.Found.the-variants.{Closed}

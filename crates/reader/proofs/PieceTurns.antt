@@ -18,9 +18,9 @@ use Rattle.label.proofs.Tests.{both, and-both, or-left, free, not-true, free-of
 use Rattle.label.proofs.Splitting.{pieces-one, pieces-front}
 use Rattle.leaves.specs.Seek.{seek, tallyOf}
 use Rattle.leaves.proofs.Turns.{drop-step, seek-behind, tally-behind}
-use Rattle.bodies.specs.declared.Kind.{Kind}
-use Rattle.bodies.specs.declared.Kind.the-variants.{Fields02, Fields96, Segments03, Segments04, Elements05, Elements06, Text}
-use Rattle.bodies.specs.Kinds.{pieceTest}
+use Rattle.pieces.specs.declared.Kind.{Kind}
+use Rattle.pieces.specs.declared.Kind.the-variants.{Fields02, Fields96, Segments03, Segments04, Elements05, Elements06, Text}
+use Rattle.pieces.specs.PieceTests.{pieceTest}
 use Rattle.bodies.proofs.PieceLaws.{leb-same}
 use Rattle.judge.specs.declared.Found.{Found}
 use Rattle.judge.specs.declared.Found.the-variants.{Closed, Refused}

@@ -8,9 +8,9 @@ use lib.ListN.{length, getD, drop, length-take, length-drop}
 use lib.Dec.{eqb}
 use Rattle.label.specs.Bytes.{Bytes, GS, RS, plain}
 use Rattle.label.specs.Limits.{longest, mostRows}
-use Rattle.bodies.specs.declared.Kind.{Kind}
-use Rattle.bodies.specs.declared.Kind.the-variants.{Fields02, Fields96, Segments03, Segments04, Elements05, Elements06, Text}
-use Rattle.bodies.specs.Kinds.{pieceTest}
+use Rattle.pieces.specs.declared.Kind.{Kind}
+use Rattle.pieces.specs.declared.Kind.the-variants.{Fields02, Fields96, Segments03, Segments04, Elements05, Elements06, Text}
+use Rattle.pieces.specs.PieceTests.{pieceTest}
 use Rattle.judge.specs.declared.Found.the-variants.{Closed}
 use Rattle.judge.specs.Bodies.{bodyFound}
 use Rattle.walk.specs.declared.Stage.{Stage}

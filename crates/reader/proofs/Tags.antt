@@ -10,9 +10,9 @@ use Rattle.label.specs.Bytes.{Bytes, FS, GS, plain, every}
 use Rattle.label.specs.Segments.{tag03}
 use Rattle.leaves.specs.Seek.{seek}
 use Rattle.leaves.proofs.Turns.{seek-behind}
-use Rattle.bodies.specs.declared.Kind.the-variants.{Segments03}
-use Rattle.bodies.specs.Kinds.{pieceTest}
-use Rattle.bodies.proofs.SeekLaws.{seek-absent}
+use Rattle.pieces.specs.declared.Kind.the-variants.{Segments03}
+use Rattle.pieces.specs.PieceTests.{pieceTest}
+use Rattle.pieces.proofs.SeekLaws.{seek-absent}
 use Rattle.reader.specs.Quick.{PassesTo}
 use Rattle.reader.specs.Segments.{TagTo}
 use Rattle.reader.proofs.PieceTurns.{no-gs, piece, piece-plain}

@@ -15,8 +15,8 @@ use Rattle.label.specs.ReadEnvelope.{readBy}
 use Rattle.label.specs.ReadMessage.{agreement}
 use Rattle.label.proofs.Tests.{both}
 use Rattle.leaves.proofs.Turns.{drop-step}
-use Rattle.bodies.specs.declared.Kind.{Kind}
-use Rattle.bodies.specs.declared.Kind.the-variants.{Fields02, Fields96}
+use Rattle.pieces.specs.declared.Kind.{Kind}
+use Rattle.pieces.specs.declared.Kind.the-variants.{Fields02, Fields96}
 use Rattle.judge.specs.declared.Found.the-variants.{Closed, Refused}
 use Rattle.judge.specs.Bodies.{bodyFound}
 use Rattle.judge.specs.Formats.{transportFound}

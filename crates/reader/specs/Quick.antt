@@ -15,8 +15,8 @@ use Rattle.label.specs.ReadEnvelope.{readBy, readEnvelope}
 use Rattle.label.specs.Message.{header}
 use Rattle.label.specs.ReadMessage.{agreement, reading}
 use Rattle.label.specs.Answer.{rowsRead}
-use Rattle.bodies.specs.declared.Kind.{Kind}
-use Rattle.bodies.specs.declared.Kind.the-variants.{Fields02, Fields96, Segments03, Segments04, Elements05, Elements06, Text}
+use Rattle.pieces.specs.declared.Kind.{Kind}
+use Rattle.pieces.specs.declared.Kind.the-variants.{Fields02, Fields96, Segments03, Segments04, Elements05, Elements06, Text}
 use Rattle.judge.specs.declared.Found.the-variants.{Closed}
 use Rattle.judge.specs.Shown.{shown, judgedAs}
 use Rattle.judge.specs.Bodies.{bodyFound}

@@ -10,8 +10,8 @@ use Rattle.label.specs.Limits.{mostRows}
 use Rattle.label.specs.Pieces.{pieces}
 use Rattle.label.specs.Segments.{tag03, tagged}
 use Rattle.leaves.specs.Seek.{tallyOf}
-use Rattle.bodies.specs.declared.Kind.{Kind}
-use Rattle.bodies.specs.declared.Kind.the-variants.{Segments03, Segments04}
+use Rattle.pieces.specs.declared.Kind.{Kind}
+use Rattle.pieces.specs.declared.Kind.the-variants.{Segments03, Segments04}
 use Rattle.walk.specs.declared.Stage.{Stage}
 use Rattle.walk.specs.declared.Stage.the-variants.{LaterElement, FurtherSubElement}
 use Rattle.walk.specs.declared.Cursor.{Cursor}

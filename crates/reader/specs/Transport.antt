@@ -6,8 +6,8 @@ use lib.Dec.{leb, eqb}
 use Rattle.label.specs.Limits.{limitOf}
 use Rattle.label.specs.Values.{version02, version96}
 use Rattle.label.specs.Fields.{leastFields, mostFields}
-use Rattle.bodies.specs.declared.Kind.{Kind}
-use Rattle.bodies.specs.declared.Kind.the-variants.{Fields02, Fields96, Segments03, Segments04, Elements05, Elements06, Text}
+use Rattle.pieces.specs.declared.Kind.{Kind}
+use Rattle.pieces.specs.declared.Kind.the-variants.{Fields02, Fields96, Segments03, Segments04, Elements05, Elements06, Text}
 
 -- so many bytes are the length of a field by the row of its version in the limits, or by its kind
 abbrev pub fitsIn : ℕ → ℕ → ℕ → Bool

@@ -6,8 +6,9 @@ use Prim.Native.Nat.{_+_, _-_, _≤_}
 use lib.ListN.{length, drop}
 use Rattle.label.specs.Pieces.{pieces}
 use Rattle.leaves.specs.Seek.{seek}
-use Rattle.bodies.specs.Kinds.{separatorOf, pieceTest, everyFrom}
-use Rattle.bodies.proofs.SeekLaws.{find-inside}
+use Rattle.pieces.specs.PieceTests.{pieceTest}
+use Rattle.pieces.proofs.SeekLaws.{find-inside}
+use Rattle.bodies.specs.Kinds.{separatorOf, everyFrom}
 use Rattle.bodies.proofs.PieceLaws.{piecesFrom, pieces-start, pieces-turn, pieces-done, every-piece-turn, every-piece-end}
 use borrow.Author.Needs.{needs}
 use Rattle.bodies.proofs.pieces_hold.Statement.{statement}

@@ -8,7 +8,8 @@ use lib.ListN.{length, take}
 use lib.Seq.{length-take-le}
 use Rattle.label.specs.Bytes.{FS}
 use Rattle.label.specs.Pieces.{pieces, lastIsEmpty}
-use Rattle.bodies.specs.Kinds.{separatorOf, pieceTest, everyFrom}
+use Rattle.pieces.specs.PieceTests.{pieceTest}
+use Rattle.bodies.specs.Kinds.{separatorOf, everyFrom}
 use borrow.Author.Needs.{needs}
 use Rattle.bodies.proofs.segments_hold.Statement.{statement}
 use Rattle.bodies.proofs.segments_hold.Tie as tie

@@ -6,7 +6,6 @@ use crate::quick::notes::given_up;
 use crate::quick::notes::note;
 use crate::quick::runs::piece_end;
 use crate::quick::runs::run_end;
-use bodies::Kind;
 use label::HEADER_LENGTH;
 use label::LEAST_FIELDS;
 use label::MOST_FIELDS_02;
@@ -14,6 +13,7 @@ use label::MOST_FIELDS_96;
 use leaves::Class;
 use leaves::GS;
 use leaves::RS;
+use pieces::Kind;
 use walk::Stage;
 use walk::standing_at;
 ghost use mathlib.Core.Path.{_≡_};
@@ -21,7 +21,7 @@ ghost use mathlib.Core.Bool.{true};
 ghost use Prim.Native.Nat.{_<_};
 ghost use lib.ListN.{length};
 ghost use Rattle.label.specs.Formats.{edition2005, ruleOf};
-ghost use Rattle.bodies.specs.Kinds.{pieceTest};
+ghost use Rattle.pieces.specs.PieceTests.{pieceTest};
 ghost use Rattle.walk.specs.Shapes.{shapeOf};
 ghost use Rattle.walk.specs.Cursors.{plainRow, opening};
 ghost use Rattle.reader.specs.Quick.{Framed, PassesTo, IfAny, IfSo, BodySwept, FormatSwept, StandsAt};
@@ -52,7 +52,7 @@ fn size_fits(k: Kind, i: usize, size: usize) -> bool
     }
 }
 
-// The end of the field with an index, or 0. Four fields have a rule for their bytes, which `bodies` knows; of the others only the length is
+// The end of the field with an index, or 0. Four fields have a rule for their bytes, which `pieces` knows; of the others only the length is
 // asked, as their bytes are plain.
 fn field_end(m: &[u8], k: Kind, i: usize, at: usize) -> usize
     requires { ⌜ Framed (now m) × (at < length (now m)) ⌝ }

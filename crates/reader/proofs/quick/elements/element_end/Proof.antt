@@ -1,8 +1,8 @@
--- `element_end` is the end that `bodies` says of 05, or the hand-tuned one of 06.
+-- `element_end` is the end that `pieces` says of 05, or the hand-tuned one of 06.
 use mathlib.Core.Path.{sym, subst}
 use native.Mathlib.Omega.{arith}
-use Rattle.bodies.specs.declared.Kind.{Kind}
-use Rattle.bodies.specs.Kinds.{pieceTest}
+use Rattle.pieces.specs.declared.Kind.{Kind}
+use Rattle.pieces.specs.PieceTests.{pieceTest}
 use Rattle.reader.specs.Quick.{PassesTo}
 use borrow.Author.Needs.{needs}
 use Rattle.reader.proofs.quick.elements.element_end.Statement.{statement}

@@ -1,4 +1,4 @@
--- `piece_end`: the run of plain bytes, and what `bodies` says of them.
+-- `piece_end`: the run of plain bytes, and what `pieces` says of them.
 use mathlib.Core.Path.{sym, _∙_}
 use native.Mathlib.Omega.{arith}
 use borrow.Author.Needs.{needs}

@@ -1,4 +1,4 @@
--- `tag_end`: what `bodies` takes for a tag, and the byte behind it.
+-- `tag_end`: what `pieces` takes for a tag, and the byte behind it.
 use native.Mathlib.Omega.{arith}
 use Rattle.reader.proofs.Tags.{tag-to}
 use borrow.Author.Needs.{needs}

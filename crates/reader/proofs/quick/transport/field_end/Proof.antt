@@ -1,4 +1,4 @@
--- `field_end`: what `bodies` says of a field, or its length alone.
+-- `field_end`: what `pieces` says of a field, or its length alone.
 use Prim.Native.Nat.{_-_}
 use native.Mathlib.Omega.{arith}
 use borrow.Author.Needs.{needs}

@@ -1,0 +1,5 @@
+pub mod ElementLaws
+pub mod TagLaws
+pub mod SeekLaws
+pub mod FieldLaws
+pub mod OneOutcome
