@@ -5,7 +5,7 @@ use contract.Lifetimes.{Lfts}
 use mathlib.Core.Bool.{Bool, cond}
 use Prim.Native.Nat.{ℕ}
 use Rattle.label.specs.Bytes.{FS, GS}
-use Rattle.label.proofs.Cases.{all-definitions}
+use Rattle.label.proofs.AllDefinitions.{all-definitions}
 use Rattle.leaves.specs.Classes.{classOf}
 use Rattle.leaves.specs.declared.Class.{Class}
 use Rattle.leaves.specs.declared.Class.the-variants.{Plain, Digit, CapitalOrDigit, PlainOrGs, SegmentByte, TextByte, RestByte}

@@ -1,9 +1,6 @@
-pub mod Cases
-pub mod Thirteen
-pub mod Readings
+pub mod AllDefinitions
 pub mod Numbers
 pub mod Untouched
-pub mod WriterAndPart
 pub mod Tests
 pub mod Splitting
 pub mod Laid
@@ -27,5 +24,4 @@ pub mod RowItems
 pub mod Parts
 pub mod Composing
 pub mod Promises
-pub mod Examples
 pub mod WriterPromises

@@ -21,7 +21,7 @@ use Rattle.label.specs.ReadMessage.{Outcome, read, refused, reading}
 use Rattle.label.specs.Answer.{rowsRead}
 use Rattle.label.specs.Rendered.{rendered}
 use Rattle.label.specs.Writing.{rowsIn, rowsStand, itemsIn, ifSame, composed, written, declined, writing, writeAnswerOf, writeAnswer, outputAfter}
-use Rattle.label.proofs.Cases.{all-definitions}
+use Rattle.label.proofs.AllDefinitions.{all-definitions}
 use Rattle.label.proofs.Promises.{accepted-is-good}
 use Rattle.label.proofs.Rendering.{rendered-good}
 use Rattle.label.proofs.Composing.{composed-good, bad-rows, rows-fit, answer-numbers, output-bytes}

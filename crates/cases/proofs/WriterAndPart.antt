@@ -4,14 +4,14 @@ use Prim.Native.Nat.{ℕ, zero, suc}
 use mathlib.Core.Path.{_≡_, refl}
 use mathlib.Core.List.{List, [], _∷_, _++_, map}
 use lib.ListN.{length, replicate}
 use Rattle.label.specs.declared.Stretch.{Stretch}
 use Rattle.label.specs.Bytes.{Bytes, ascii}
 use Rattle.label.specs.Formats.{edition2005}
 use Rattle.label.specs.Part.{partOf}
 use Rattle.label.specs.Writing.{writeAnswer, outputAfter}
-use Rattle.label.proofs.Cases.{all-definitions}
-use Rattle.label.proofs.Thirteen.{carton, emptyText, noTrailer}
-use Rattle.label.proofs.Readings.{manyElements, longText}
+use Rattle.label.proofs.AllDefinitions.{all-definitions}
+use Rattle.cases.proofs.Thirteen.{carton, emptyText, noTrailer}
+use Rattle.cases.proofs.Readings.{manyElements, longText}
 
 -- data, row numbers and an output; the answer, and the output afterwards
 pub record WriterCase : Type 0 where

@@ -2,14 +2,15 @@
 -- by hand, and good by computation.
 use mathlib.Core.Path.{refl}
 use mathlib.Core.List.{List, [], _∷_}
 use Rattle.label.specs.Bytes.{ascii, EOT, GS, RS}
 use Rattle.label.specs.Values.{version02, version96}
 use Rattle.label.specs.Segments.{Segment, tag, tag03}
 use Rattle.label.specs.Elements.{element05, element06}
 use Rattle.label.specs.Formats.{edition2005, restByte, textByte}
 use Rattle.label.specs.Envelope.{Envelope, fields, wholeRest, segments, elements, text, counted, Within}
 use Rattle.label.specs.Message.{message, Each, Good}
-use Rattle.label.proofs.Cases.{all-definitions, _and_, good}
+use Rattle.label.proofs.AllDefinitions.{all-definitions}
+use Rattle.cases.proofs.Cases.{_and_, good}
 
 -- 01: the five fields that must be there, the postal code empty, as version 02 allows
 abbrev leastTransport : Envelope

@@ -3,14 +3,15 @@
 use Prim.Native.Nat.{ℕ}
 use mathlib.Core.Path.{_≡_, refl}
 use mathlib.Core.List.{List, [], _∷_, _++_, map, tail}
 use Rattle.label.specs.Bytes.{ascii, EOT, GS, RS}
 use Rattle.label.specs.Elements.{element06}
 use Rattle.label.specs.Segments.{tag03}
 use Rattle.label.specs.Formats.{edition2005, restByte, textByte}
 use Rattle.label.specs.Layout.{numbers}
 use Rattle.label.specs.Envelope.{Envelope, wholeRest, segments, elements, text, counted}
 use Rattle.label.specs.Message.{rowsOf, Each, Good}
-use Rattle.label.proofs.Cases.{Case, Stand, all-definitions, _and_, good}
+use Rattle.label.proofs.AllDefinitions.{all-definitions}
+use Rattle.cases.proofs.Cases.{Case, Stand, _and_, good}
 
 -- the message printed under 'Cartons to try': H `06` GS `1P7` GS `Q3` RS EOT
 abbrev pub carton : Case

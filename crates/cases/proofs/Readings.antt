@@ -4,10 +4,11 @@ use Prim.Native.Nat.{ℕ}
 use mathlib.Core.Path.{_≡_, refl}
 use mathlib.Core.List.{List, [], _∷_, _++_, map}
 use lib.ListN.{replicate}
 use Rattle.label.specs.Bytes.{Bytes, ascii}
 use Rattle.label.specs.Formats.{edition2005}
 use Rattle.label.specs.Answer.{readAnswer}
-use Rattle.label.proofs.Cases.{Case, Stand, all-definitions}
+use Rattle.label.proofs.AllDefinitions.{all-definitions}
+use Rattle.cases.proofs.Cases.{Case, Stand}
 
 -- Reading 1: the place of 3 is where the indicator is due
 

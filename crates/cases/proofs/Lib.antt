@@ -1,0 +1,5 @@
+pub mod Cases
+pub mod Thirteen
+pub mod Readings
+pub mod Examples
+pub mod WriterAndPart
