@@ -19,9 +19,9 @@ use Rattle.label.specs.Message.{header, isRestAlone, messageParts, rowsOf}
 use Rattle.label.specs.ReadMessage.{Outcome, read, refused, walk, enough, agreement, withinRows, reading, unboundedWalk}
 use Rattle.label.proofs.Walk.{bound-is-enough}
 use Rattle.label.proofs.RowItems.{rows-items}
+use Rattle.envelope.proofs.BodyLaws.{cond-yes, cond-no}
+use Rattle.envelope.proofs.RowCounts.{items-append}
 use Rattle.judge.specs.Shown.{judgedAs, totalRows, tallied, limited}
-use Rattle.judge.proofs.BodyLaws.{cond-yes, cond-no}
-use Rattle.judge.proofs.RowCounts.{items-append}
 
 items-ended : (es : List Envelope) (ps : List Part) → length (itemsOf (ended RS (map parts es) ++ ps)) ≡ totalRows es + length (itemsOf ps)
 items-ended [] ps = omega arith

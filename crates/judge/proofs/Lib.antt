@@ -1,9 +1,3 @@
-pub mod BodyLaws
-pub mod HeaderLaws
-pub mod ValueLaws
-pub mod FormatTests
-pub mod RowCounts
-pub mod FormatLaws
 pub mod RowBounds
 pub mod WalkLaws
 pub mod JudgeLaws

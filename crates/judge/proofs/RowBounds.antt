@@ -12,8 +12,8 @@ use Rattle.label.specs.Envelope.{Envelope, fields, wholeRest, segments, element
 use Rattle.label.specs.Written.{rowed, rowedEach, elementRow, subElementRow, tagRow, pieceRow, elementParts, segmentParts, parts}
 use Rattle.label.specs.Message.{Each}
 use Rattle.label.proofs.Laid.{bytes-append}
-use Rattle.judge.specs.Shown.{rowCount}
-use Rattle.judge.proofs.RowCounts.{items-append}
+use Rattle.envelope.specs.Shown.{rowCount}
+use Rattle.envelope.proofs.RowCounts.{items-append}
 
 -- at most k rows more than bytes
 abbrev Under : ℕ → List Part → Type 0

@@ -21,12 +21,13 @@ use Rattle.label.specs.ReadMessage.{Outcome, read, refused, placeOf, andThen, a
 use Rattle.label.proofs.EnvelopeSound.{StepSo, step-so}
 use Rattle.label.proofs.Walk.{one-step-then-walk}
 use Rattle.leaves.proofs.Turns.{drop-step, drop-past}
-use Rattle.judge.specs.declared.Found.the-variants.{Closed, Whole, Refused}
+use Rattle.envelope.specs.declared.Found.the-variants.{Closed, Whole, Refused}
+use Rattle.envelope.specs.Shown.{rowCount, shown}
+use Rattle.envelope.proofs.BodyLaws.{cond-yes, cond-no}
 use Rattle.judge.specs.declared.State.{State}
 use Rattle.judge.specs.declared.Turn.the-variants.{Done, Go}
-use Rattle.judge.specs.Shown.{rowCount, shown, totalRows, tallied}
+use Rattle.judge.specs.Shown.{totalRows, tallied}
 use Rattle.judge.specs.Turns.{resultOf, resultAfter, Sound, Further, TurnSo, boundaryTurn}
-use Rattle.judge.proofs.BodyLaws.{cond-yes, cond-no}
 use Rattle.judge.proofs.RowBounds.{few-rows}
 
 -- At a boundary

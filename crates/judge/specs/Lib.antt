@@ -1,5 +1,2 @@
 pub mod Shown
-pub mod Headers
-pub mod Bodies
-pub mod Formats
 pub mod Turns

@@ -1,5 +1,5 @@
--- What the first pass keeps of what is read: of an envelope where the next begins and how many rows it has, of a message its counts.
-use Prim.Native.Nat.{ℕ, _+_, _-_}
+-- What the first pass keeps of what is read: of a message its counts.
+use Prim.Native.Nat.{ℕ, _+_}
 use mathlib.Core.Bool.{cond}
 use mathlib.Core.List.{List, [], _∷_}
 use lib.ListN.{length}
@@ -7,26 +7,11 @@ use lib.Dec.{ltb}
 use Rattle.label.specs.declared.Reading.{Reading}
 use Rattle.label.specs.declared.Reading.the-variants.{Accepted, Refused as RefusedReading}
 use Rattle.label.specs.declared.Reason.the-variants.{TooManyRows}
-use Rattle.label.specs.Bytes.{Bytes}
 use Rattle.label.specs.Limits.{mostRows}
-use Rattle.label.specs.Layout.{itemsOf}
 use Rattle.label.specs.Envelope.{Envelope}
-use Rattle.label.specs.Written.{parts}
 use Rattle.label.specs.Message.{rowsOf}
-use Rattle.label.specs.ReadEnvelope.{Step, closed, whole, refuse}
 use Rattle.label.specs.ReadMessage.{Outcome, read, refused}
-use Rattle.judge.specs.declared.Found.{Found}
-use Rattle.judge.specs.declared.Found.the-variants.{Closed, Whole, Refused}
-
--- how many rows an envelope has
-abbrev pub rowCount : Envelope → ℕ
-rowCount e = length (itemsOf (parts e))
-
--- what is kept of an envelope of a message
-abbrev pub shown : Bytes → Step → Found
-shown m (closed e left) = Closed (length m - length left) (rowCount e)
-shown m (whole e) = Whole (rowCount e)
-shown m (refuse reason) = Refused reason
+use Rattle.envelope.specs.Shown.{rowCount}
 
 -- how many rows envelopes have
 abbrev pub totalRows : List Envelope → ℕ

@@ -1,8 +1,8 @@
 // The walk over a message's envelopes from the left.
-use crate::Found;
 use crate::State;
 use crate::Turn;
-use crate::judge_envelope;
+use envelope::Found;
+use envelope::judge_envelope;
 use label::Counts;
 use label::HEADER_LENGTH;
 use label::Reading;

@@ -1,4 +1,8 @@
-// What is asked of a stretch of bytes: whether all are of a class, where a byte is, how often. Every function takes every input.
+// What is asked of a stretch of bytes: whether all are of a class, where a byte is, how often, how far they agree with a text. Every function
+// takes every input.
+mod text;
+
+pub use text::agree;
 ghost use mathlib.Core.Path.{_≡_};
 ghost use mathlib.Core.Bool.{not};
 ghost use Prim.Native.Nat.{_+_, _-_, _≤_};

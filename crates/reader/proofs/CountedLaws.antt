@@ -19,14 +19,15 @@ use Rattle.label.proofs.Tests.{and-both, Implies, Without, plain-without}
 use Rattle.leaves.specs.declared.Class.the-variants.{Plain, Digit}
 use Rattle.leaves.specs.Classes.{classOf}
 use Rattle.leaves.specs.Seek.{seek}
-use Rattle.judge.specs.declared.Found.{Found}
-use Rattle.judge.specs.declared.Found.the-variants.{Closed}
-use Rattle.judge.specs.Shown.{shown}
-use Rattle.judge.specs.Headers.{valueEnd}
-use Rattle.judge.specs.Formats.{payloadFound, afterValue, countFound, compressionFound, countedFound}
-use Rattle.judge.proofs.BodyLaws.{cond-yes}
-use Rattle.judge.proofs.ValueLaws.{agree-on, value-bytes}
-use Rattle.judge.proofs.FormatLaws.{shown-09}
+use Rattle.leaves.proofs.Agreement.{agree-on}
+use Rattle.envelope.specs.declared.Found.{Found}
+use Rattle.envelope.specs.declared.Found.the-variants.{Closed}
+use Rattle.envelope.specs.Shown.{shown}
+use Rattle.envelope.specs.Headers.{valueEnd}
+use Rattle.envelope.specs.Formats.{payloadFound, afterValue, countFound, compressionFound, countedFound}
+use Rattle.envelope.proofs.BodyLaws.{cond-yes}
+use Rattle.envelope.proofs.ValueLaws.{value-bytes}
+use Rattle.envelope.proofs.FormatLaws.{shown-09}
 use Rattle.walk.specs.declared.Stage.{Stage}
 use Rattle.walk.specs.declared.Stage.the-variants.{TypeValue, CompressionValue, CountValue, Body}
 use Rattle.walk.specs.declared.Cursor.{Cursor}

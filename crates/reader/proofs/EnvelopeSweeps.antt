@@ -21,14 +21,14 @@ use Rattle.leaves.proofs.Turns.{drop-step}
 use Rattle.pieces.specs.declared.Kind.{Kind}
 use Rattle.pieces.specs.declared.Kind.the-variants.{Fields02, Fields96, Segments03, Segments04, Elements05, Elements06, Text}
 use Rattle.pieces.proofs.SeekLaws.{seek-found}
-use Rattle.judge.specs.declared.Found.the-variants.{Closed, Refused}
-use Rattle.judge.specs.Shown.{shown}
-use Rattle.judge.specs.Headers.{indicatorOf}
-use Rattle.judge.specs.Bodies.{bodyFound}
-use Rattle.judge.specs.Formats.{beginsAt}
-use Rattle.judge.proofs.BodyLaws.{cond-yes, body-closed}
-use Rattle.judge.proofs.HeaderLaws.{drop-two, read-some}
-use Rattle.judge.proofs.FormatLaws.{shown-05, shown-06, shown-07}
+use Rattle.envelope.specs.declared.Found.the-variants.{Closed, Refused}
+use Rattle.envelope.specs.Shown.{shown}
+use Rattle.envelope.specs.Headers.{indicatorOf}
+use Rattle.envelope.specs.Bodies.{bodyFound}
+use Rattle.envelope.specs.Formats.{beginsAt}
+use Rattle.envelope.proofs.BodyLaws.{cond-yes, body-closed}
+use Rattle.envelope.proofs.HeaderLaws.{drop-two, read-some}
+use Rattle.envelope.proofs.FormatLaws.{shown-05, shown-06, shown-07}
 use Rattle.walk.specs.declared.Stage.the-variants.{Indicator, Piece, Body}
 use Rattle.walk.specs.declared.Cursor.{Cursor}
 use Rattle.reader.specs.declared.quick.notes.Passed.{Passed}

@@ -21,9 +21,9 @@ use Rattle.pieces.specs.declared.Kind.the-variants.{Fields02, Fields96, Segment
 use Rattle.pieces.specs.PieceTests.{pieceTest}
 use Rattle.bodies.specs.Kinds.{everyFrom}
 use Rattle.bodies.proofs.RuleLaws.{fields-law}
-use Rattle.judge.specs.declared.Found.{Found}
-use Rattle.judge.specs.declared.Found.the-variants.{Closed}
-use Rattle.judge.specs.Bodies.{bodyFound}
+use Rattle.envelope.specs.declared.Found.{Found}
+use Rattle.envelope.specs.declared.Found.the-variants.{Closed}
+use Rattle.envelope.specs.Bodies.{bodyFound}
 use Rattle.walk.specs.declared.Stage.the-variants.{Piece}
 use Rattle.walk.specs.declared.Cursor.{Cursor}
 use Rattle.walk.specs.Cursors.{standing, plainRow, indicatorAt, nextCursor}

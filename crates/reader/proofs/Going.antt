@@ -12,11 +12,11 @@ use Rattle.label.specs.Bytes.{Bytes, EOT}
 use Rattle.label.specs.Limits.{mostRows}
 use Rattle.label.specs.Formats.{edition2005}
 use Rattle.label.specs.ReadMessage.{reading, unboundedWalk}
+use Rattle.envelope.proofs.BodyLaws.{cond-no}
 use Rattle.judge.specs.declared.State.{State}
 use Rattle.judge.specs.declared.Turn.the-variants.{Go}
 use Rattle.judge.specs.Shown.{judgedAs, tallied, limited}
 use Rattle.judge.specs.Turns.{resultOf, Sound, TurnSo, boundaryTurn}
-use Rattle.judge.proofs.BodyLaws.{cond-no}
 use Rattle.judge.proofs.WalkLaws.{boundary-next, boundary-last, turn-closed, closed-so}
 use Rattle.judge.proofs.JudgeLaws.{judge-walk}
 use Rattle.reader.specs.declared.quick.notes.Passed.{Passed}

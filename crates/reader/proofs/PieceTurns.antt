@@ -22,9 +22,9 @@ use Rattle.pieces.specs.declared.Kind.{Kind}
 use Rattle.pieces.specs.declared.Kind.the-variants.{Fields02, Fields96, Segments03, Segments04, Elements05, Elements06, Text}
 use Rattle.pieces.specs.PieceTests.{pieceTest}
 use Rattle.bodies.proofs.PieceLaws.{leb-same}
-use Rattle.judge.specs.declared.Found.{Found}
-use Rattle.judge.specs.declared.Found.the-variants.{Closed, Refused}
-use Rattle.judge.specs.Bodies.{bodyFound}
+use Rattle.envelope.specs.declared.Found.{Found}
+use Rattle.envelope.specs.declared.Found.the-variants.{Closed, Refused}
+use Rattle.envelope.specs.Bodies.{bodyFound}
 use Rattle.walk.specs.Cursors.{runOf, plainRun}
 use Rattle.reader.specs.Quick.{RunsTo, PassesTo, ElementsOf}
 

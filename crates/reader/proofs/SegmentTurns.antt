@@ -22,16 +22,16 @@ use Rattle.label.proofs.Splitting.{pieces-some, pieces-front}
 use Rattle.label.proofs.SegmentLaws.{segmentCut}
 use Rattle.leaves.specs.Seek.{seek, tallyOf}
 use Rattle.leaves.proofs.Turns.{drop-step, seek-behind, tally-behind}
+use Rattle.leaves.proofs.Agreement.{agree-on}
 use Rattle.pieces.specs.declared.Kind.the-variants.{Segments03, Segments04}
 use Rattle.bodies.proofs.PieceLaws.{leb-same}
-use Rattle.judge.specs.declared.Found.{Found}
-use Rattle.judge.specs.declared.Found.the-variants.{Closed, Refused}
-use Rattle.judge.specs.Bodies.{bodyFound}
-use Rattle.judge.specs.Formats.{segmentsFound}
-use Rattle.judge.specs.Shown.{shown}
-use Rattle.judge.proofs.ValueLaws.{agree-on}
-use Rattle.judge.proofs.FormatTests.{segments-body}
-use Rattle.judge.proofs.FormatLaws.{shown-03, shown-04}
+use Rattle.envelope.specs.declared.Found.{Found}
+use Rattle.envelope.specs.declared.Found.the-variants.{Closed, Refused}
+use Rattle.envelope.specs.Bodies.{bodyFound}
+use Rattle.envelope.specs.Formats.{segmentsFound}
+use Rattle.envelope.specs.Shown.{shown}
+use Rattle.envelope.proofs.FormatTests.{segments-body}
+use Rattle.envelope.proofs.FormatLaws.{shown-03, shown-04}
 use Rattle.walk.specs.declared.Stage.the-variants.{Tag, ReleaseValue}
 use Rattle.walk.specs.declared.Cursor.{Cursor}
 use Rattle.reader.specs.declared.quick.notes.Passed.{Passed}

@@ -11,8 +11,8 @@ use Rattle.label.specs.Limits.{longest, mostRows}
 use Rattle.pieces.specs.declared.Kind.{Kind}
 use Rattle.pieces.specs.declared.Kind.the-variants.{Fields02, Fields96, Segments03, Segments04, Elements05, Elements06, Text}
 use Rattle.pieces.specs.PieceTests.{pieceTest}
-use Rattle.judge.specs.declared.Found.the-variants.{Closed}
-use Rattle.judge.specs.Bodies.{bodyFound}
+use Rattle.envelope.specs.declared.Found.the-variants.{Closed}
+use Rattle.envelope.specs.Bodies.{bodyFound}
 use Rattle.walk.specs.declared.Stage.{Stage}
 use Rattle.walk.specs.declared.Stage.the-variants.{Piece}
 use Rattle.walk.specs.declared.Cursor.{Cursor}

@@ -17,11 +17,11 @@ use Rattle.label.proofs.Tests.{both}
 use Rattle.leaves.proofs.Turns.{drop-step}
 use Rattle.pieces.specs.declared.Kind.{Kind}
 use Rattle.pieces.specs.declared.Kind.the-variants.{Fields02, Fields96}
-use Rattle.judge.specs.declared.Found.the-variants.{Closed, Refused}
-use Rattle.judge.specs.Bodies.{bodyFound}
-use Rattle.judge.specs.Formats.{transportFound}
-use Rattle.judge.specs.Shown.{shown}
-use Rattle.judge.proofs.FormatLaws.{shown-01}
+use Rattle.envelope.specs.declared.Found.the-variants.{Closed, Refused}
+use Rattle.envelope.specs.Bodies.{bodyFound}
+use Rattle.envelope.specs.Formats.{transportFound}
+use Rattle.envelope.specs.Shown.{shown}
+use Rattle.envelope.proofs.FormatLaws.{shown-01}
 use Rattle.walk.specs.declared.Stage.the-variants.{VersionValue, Piece}
 use Rattle.walk.specs.declared.Cursor.{Cursor}
 use Rattle.reader.specs.declared.quick.notes.Passed.{Passed}

@@ -7,9 +7,9 @@ use lib.ListN.{length}
 use Rattle.label.specs.Bytes.{Bytes, plain}
 use Rattle.label.specs.Limits.{mostRows}
 use Rattle.leaves.specs.Classes.{classOf}
-use Rattle.judge.specs.declared.Found.{Found}
-use Rattle.judge.specs.declared.Found.the-variants.{Closed}
-use Rattle.judge.specs.Headers.{valueEnd}
+use Rattle.envelope.specs.declared.Found.{Found}
+use Rattle.envelope.specs.declared.Found.the-variants.{Closed}
+use Rattle.envelope.specs.Headers.{valueEnd}
 use Rattle.reader.specs.declared.quick.counted.Value.{Value}
 use Rattle.reader.specs.declared.quick.notes.Passed.{Passed}
 use Rattle.walk.specs.declared.Stage.{Stage}

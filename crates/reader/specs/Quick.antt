@@ -17,9 +17,10 @@ use Rattle.label.specs.ReadMessage.{agreement, reading}
 use Rattle.label.specs.Answer.{rowsRead}
 use Rattle.pieces.specs.declared.Kind.{Kind}
 use Rattle.pieces.specs.declared.Kind.the-variants.{Fields02, Fields96, Segments03, Segments04, Elements05, Elements06, Text}
-use Rattle.judge.specs.declared.Found.the-variants.{Closed}
-use Rattle.judge.specs.Shown.{shown, judgedAs}
-use Rattle.judge.specs.Bodies.{bodyFound}
+use Rattle.envelope.specs.declared.Found.the-variants.{Closed}
+use Rattle.envelope.specs.Shown.{shown}
+use Rattle.envelope.specs.Bodies.{bodyFound}
+use Rattle.judge.specs.Shown.{judgedAs}
 use Rattle.walk.specs.declared.Cursor.{Cursor}
 use Rattle.reader.specs.declared.quick.notes.Passed.{Passed}
 use Rattle.reader.specs.declared.quick.notes.Wanted.{Wanted}

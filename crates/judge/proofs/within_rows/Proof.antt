@@ -2,8 +2,8 @@
 use mathlib.Core.Path.{sym, ap, _∙_}
 use borrow.Author.Tests.{lt-ltb, le-ltb}
 use Rattle.label.specs.Limits.{mostRows}
+use Rattle.envelope.proofs.BodyLaws.{cond-yes, cond-no}
 use Rattle.judge.specs.Shown.{limited}
-use Rattle.judge.proofs.BodyLaws.{cond-yes, cond-no}
 use borrow.Author.Needs.{needs}
 use Rattle.judge.proofs.within_rows.Statement.{statement}
 use Rattle.judge.proofs.within_rows.Tie as tie

@@ -19,7 +19,7 @@ use walk::count_from;
 use walk::standing_at;
 ghost use Prim.Native.Nat.{_+_};
 ghost use Rattle.label.specs.Formats.{edition2005, ruleOf};
-ghost use Rattle.judge.specs.Formats.{countFound, compressionFound};
+ghost use Rattle.envelope.specs.Formats.{countFound, compressionFound};
 ghost use Rattle.walk.specs.Shapes.{shapeOf};
 ghost use Rattle.walk.specs.Cursors.{opening};
 ghost use Rattle.reader.specs.Quick.{IfAny, FormatSwept, StandsAt};

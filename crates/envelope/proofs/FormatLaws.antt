@@ -1,0 +1,330 @@
+-- What reading each format behind its indicator shows is what is found of it by offsets.
+use Prim.Native.Nat.{ℕ, suc, _+_, _-_, _≤_, _<_}
+use mathlib.Core.Path.{_≡_, refl, sym, ap, _∙_}
+use mathlib.Core.Bool.{Bool, true, false, not, _&&_, cond}
+use mathlib.Core.Option.{Option, none, some}
+use mathlib.Core.List.{[], _∷_, _++_}
+use native.Mathlib.Omega.{arith}
+use borrow.Author.Tests.{le-leb, lt-leb, ltb-true, ltb-false, lt-ltb, le-ltb, eqb-true, eqb-false}
+use lib.ListN.{length, getD, take, drop, take-append-drop, length-take, length-drop}
+use lib.Seq.{drop-drop, length-take-le}
+use lib.Dec.{leb, ltb, eqb, eqb·zero-suc, eqb·suc-suc}
+use Rattle.label.specs.declared.Reason.{Reason}
+use Rattle.label.specs.declared.Reason.the-variants.{BadFormatHeader, PayloadDoesNotFit, ByteNotPermitted, BodyBreaksRules, NoRecordSeparator}
+use Rattle.label.specs.Bytes.{Bytes, ascii, FS, GS, RS, US, plain, digit, capitalOrDigit, every, isEmpty}
+use Rattle.label.specs.Limits.{longAs, _to_}
+use Rattle.label.specs.Pieces.{pieces, lastIsEmpty, cut}
+use Rattle.label.specs.Values.{Version, version02, version96, versionDigits, releaseLength, release, payloadType, compression, count, value}
+use Rattle.label.specs.Elements.{element05, element06}
+use Rattle.label.specs.Segments.{tag, tag03, tagged}
+use Rattle.label.specs.Formats.{restByte, textByte}
+use Rattle.label.specs.Envelope.{Envelope, fields, wholeRest, segments, elements, text, counted}
+use Rattle.label.specs.Written.{pieceRow, parts}
+use Rattle.label.specs.ReadEnvelope.{Step, closed, whole, refuse, must, opened, valuedAt, valued, bodyAt, bodied, versionOf, readFields, readTransport, readRest, segmentsIn, areSegments, readSegments, readElements, readText, readPayload, readCounted}
+use Rattle.label.specs.ReadMessage.{agreement}
+use Rattle.label.proofs.Tests.{both, and-both}
+use Rattle.label.proofs.EnvelopeSound.{version-so}
+use Rattle.label.proofs.ReadingSound.{begins}
+use Rattle.leaves.specs.Seek.{seek, tallyOf}
+use Rattle.pieces.specs.declared.Kind.{Kind}
+use Rattle.pieces.specs.declared.Kind.the-variants.{Fields02, Fields96, Segments03, Segments04, Elements05, Elements06, Text}
+use Rattle.pieces.proofs.SeekLaws.{cut-found, cut-absent}
+use Rattle.bodies.specs.Kinds.{permittedOf, rulesOf, rowsOfBody}
+use Rattle.bodies.proofs.RuleLaws.{pieces-count}
+use Rattle.bodies.proofs.PieceLaws.{leb-same}
+use Rattle.envelope.specs.declared.Found.{Found}
+use Rattle.envelope.specs.declared.Found.the-variants.{Closed, Refused}
+use Rattle.envelope.specs.Shown.{rowCount, shown}
+use Rattle.envelope.specs.Bodies.{bodyFound}
+use Rattle.envelope.specs.Headers.{valueEnd}
+use Rattle.envelope.specs.Formats.{beginsAt, transportFound, restFound, segmentsFound, elementsFound, payloadFound, afterValue, countFound, compressionFound, countedFound}
+use Rattle.envelope.proofs.BodyLaws.{cond-yes, cond-no}
+use Rattle.envelope.proofs.ValueLaws.{begins-long}
+use Rattle.envelope.proofs.RowCounts.{items-pieces, rows-segments}
+
+-- what a refusal unless a test holds shows
+shown-must : (m : Bytes) (t : Bool) (r : Reason) (s : Step) → shown m (must t r s) ≡ cond t (shown m s) (Refused r)
+shown-must m true r s = refl
+shown-must m false r s = refl
+
+-- Bodies
+
+module _ (k : Kind) (before : ℕ) (m : Bytes) (at : ℕ) (made : Bytes → Envelope) (inside : at ≤ length m)
+    (counts : (body : Bytes) → rulesOf k body ≡ true → rowCount (made body) ≡ before + rowsOfBody k body) where
+  judged-body : (body left : Bytes) (end : ℕ) → length m - length left ≡ end
+      → shown m (must (every (permittedOf k) body) ByteNotPermitted (must (rulesOf k body) BodyBreaksRules (closed (made body) left)))
+      ≡ cond (every (permittedOf k) body) (cond (rulesOf k body) (Closed end (before + rowsOfBody k body)) (Refused BodyBreaksRules)) (Refused ByteNotPermitted)
+  judged-body body left end is = by (every (permittedOf k) body) (rulesOf k body) refl
+    where
+      by : (s t : Bool) → rulesOf k body ≡ t
+          → shown m (must s ByteNotPermitted (must t BodyBreaksRules (closed (made body) left))) ≡ cond s (cond t (Closed end (before + rowsOfBody k body)) (Refused BodyBreaksRules)) (Refused ByteNotPermitted)
+      by true true h = λ i. Closed (is i) (counts body h i)
+      by true false h = refl
+      by false t h = refl
+
+  pub shown-body : shown m (bodied (permittedOf k) (rulesOf k) made (drop at m)) ≡ bodyFound k before m at
+  unfolding bodied bodyFound
+  shown-body = by (ltb (seek RS (drop at m)) (length (drop at m))) refl
+    where
+      bs : Bytes
+      bs = drop at m
+
+      n : ℕ
+      n = seek RS bs
+
+      by : (t : Bool) → ltb n (length bs) ≡ t → shown m (bodyAt (permittedOf k) (rulesOf k) made (cut RS bs))
+          ≡ cond t (cond (every (permittedOf k) (take n bs)) (cond (rulesOf k (take n bs)) (Closed (at + n + 1) (before + rowsOfBody k (take n bs))) (Refused BodyBreaksRules)) (Refused ByteNotPermitted)) (Refused NoRecordSeparator)
+      by true here =
+          let less = ltb-true n (length bs) here in
+          let long = length-drop at m in
+          let left = length-drop (n + 1) bs in
+          ap (λ c. shown m (bodyAt (permittedOf k) (rulesOf k) made c)) (cut-found RS bs less)
+          ∙ judged-body (take n bs) (drop (n + 1) bs) (at + n + 1) (omega arith)
+      by false past = ap (λ c. shown m (bodyAt (permittedOf k) (rulesOf k) made c)) (cut-absent RS bs (ltb-false n (length bs) past))
+
+-- Headers
+
+opened-with : (t : Bool) (hs bs : Bytes) (next : Bytes → Step) → opened hs bs next ≡ cond (eqb (agreement hs bs) (length hs)) (next (drop (length hs) bs)) (refuse BadFormatHeader)
+    → must t BadFormatHeader (opened hs bs next) ≡ cond (eqb (cond t (suc (agreement hs bs)) 0) (suc (length hs))) (next (drop (length hs) bs)) (refuse BadFormatHeader)
+opened-with true hs bs next later = later ∙ ap (λ t. cond t (next (drop (length hs) bs)) (refuse BadFormatHeader)) (sym (eqb·suc-suc (agreement hs bs) (length hs)))
+opened-with false hs bs next later = sym (cond-no _ _ _ (eqb·zero-suc (length hs)))
+
+opened-by : (hs bs : Bytes) (next : Bytes → Step) → opened hs bs next ≡ cond (eqb (agreement hs bs) (length hs)) (next (drop (length hs) bs)) (refuse BadFormatHeader)
+opened-by [] bs next = refl
+opened-by (h ∷ hs) [] next = sym (cond-no _ _ _ (eqb·zero-suc (length hs)))
+opened-by (h ∷ hs) (b ∷ bs) next = opened-with (eqb b h) hs bs next (opened-by hs bs next)
+
+-- a header that bytes begin with, and then what is found behind it
+shown-opened : (m hs : Bytes) (at : ℕ) (next : Bytes → Step) (there : Found) → at ≤ length m → (at + length hs ≤ length m → shown m (next (drop (at + length hs) m)) ≡ there)
+    → shown m (opened hs (drop at m) next) ≡ cond (beginsAt hs m at) there (Refused BadFormatHeader)
+shown-opened m hs at next there inside then = ap (shown m) (opened-by hs (drop at m) next) ∙ by (beginsAt hs m at) refl
+  where
+    by : (t : Bool) → beginsAt hs m at ≡ t → shown m (cond t (next (drop (length hs) (drop at m))) (refuse BadFormatHeader)) ≡ cond t there (Refused BadFormatHeader)
+    by true is = ap (λ l. shown m (next l)) (drop-drop (length hs) at m) ∙ then (begins-long hs m at inside (eqb-true _ _ is))
+    by false is = refl
+
+-- 05, 06
+
+pieces-rows : (f : ℕ) (body : Bytes) → rowCount (elements f (pieces GS body)) ≡ 1 + (tallyOf GS body + 1)
+unfolding parts
+pieces-rows f body = omega (arith, items-pieces GS pieceRow f (pieces GS body), pieces-count GS body)
+
+pub shown-05 : (m : Bytes) (at : ℕ) → at ≤ length m → shown m (readElements element05 5 (drop at m)) ≡ elementsFound Elements05 m at
+unfolding readElements
+shown-05 m at inside = shown-opened m (GS ∷ []) at _ (bodyFound Elements05 1 m (at + 1)) inside (λ long. shown-body Elements05 1 m (at + 1) (λ body. elements 5 (pieces GS body)) long (λ body kept. pieces-rows 5 body))
+
+pub shown-06 : (m : Bytes) (at : ℕ) → at ≤ length m → shown m (readElements element06 6 (drop at m)) ≡ elementsFound Elements06 m at
+unfolding readElements
+shown-06 m at inside = shown-opened m (GS ∷ []) at _ (bodyFound Elements06 1 m (at + 1)) inside (λ long. shown-body Elements06 1 m (at + 1) (λ body. elements 6 (pieces GS body)) long (λ body kept. pieces-rows 6 body))
+
+-- 07
+
+pub shown-07 : (m : Bytes) (at : ℕ) → at ≤ length m → shown m (readText textByte 7 (drop at m)) ≡ bodyFound Text 1 m at
+unfolding readText parts
+shown-07 m at inside = shown-body Text 1 m at (text 7) inside (λ body kept. refl)
+
+-- 02
+
+not-empty : (m : Bytes) (at : ℕ) → not (isEmpty (drop at m)) ≡ ltb at (length m)
+not-empty m at = by (drop at m) (length-drop at m)
+  where
+    by : (bs : Bytes) → length bs ≡ length m - at → not (isEmpty bs) ≡ ltb at (length m)
+    by [] is = sym (le-ltb at (length m) (omega arith))
+    by (b ∷ bs) is = sym (lt-ltb at (length m) (omega arith))
+
+pub shown-02 : (m : Bytes) (at : ℕ) → shown m (readRest restByte 2 (drop at m)) ≡ restFound m at
+unfolding readRest parts
+shown-02 m at =
+    shown-must m (not (isEmpty (drop at m))) _ _
+    ∙ (λ i. cond (not-empty m at i) (shown-must m (every restByte (drop at m)) ByteNotPermitted (whole (wholeRest 2 (drop at m))) i) (Refused BodyBreaksRules))
+
+-- 03, 04
+
+segment-rows : (f : ℕ) (header : Bytes) (isTag : Bytes → Bool) (body : Bytes) → areSegments isTag body ≡ true → rowCount (segments f header (segmentsIn body)) ≡ 2 + (tallyOf FS body + tallyOf GS body + tallyOf US body)
+unfolding parts areSegments
+segment-rows f header isTag body kept =
+    let k = both (lastIsEmpty (pieces FS body) && not (isEmpty (segmentsIn body))) (every (tagged isTag) (segmentsIn body)) kept in
+    let ends = both (lastIsEmpty (pieces FS body)) (not (isEmpty (segmentsIn body))) (k .left) .left in
+    omega (arith, rows-segments f body ends)
+
+-- six bytes are there, and of the class
+six-there : (bs : Bytes) → release (take releaseLength bs) ≡ (not (ltb (length bs) releaseLength) && every capitalOrDigit (take releaseLength bs))
+unfolding release longAs
+six-there bs = by (ltb (length bs) releaseLength) refl
+  where
+    by : (t : Bool) → ltb (length bs) releaseLength ≡ t
+        → (leb releaseLength (length (take releaseLength bs)) && leb (length (take releaseLength bs)) releaseLength && every capitalOrDigit (take releaseLength bs)) ≡ (not t && every capitalOrDigit (take releaseLength bs))
+    by true short =
+        let less = ltb-true (length bs) releaseLength short in
+        let long = length-take releaseLength bs in
+        ap (λ t. t && leb (length (take releaseLength bs)) releaseLength && every capitalOrDigit (take releaseLength bs)) (lt-leb releaseLength (length (take releaseLength bs)) (omega arith))
+    by false enough =
+        let more = ltb-false (length bs) releaseLength enough in
+        let six = length-take-le releaseLength bs more in
+        (λ i. le-leb releaseLength (length (take releaseLength bs)) (omega arith) i && le-leb (length (take releaseLength bs)) releaseLength (omega arith) i && every capitalOrDigit (take releaseLength bs))
+
+shown-six : (m : Bytes) (at : ℕ) (next : Bytes → Step) (there : Found) → at ≤ length m → (at + releaseLength + 3 ≤ length m → shown m (next (drop (at + releaseLength + 3) m)) ≡ there)
+    → shown m (must (release (take releaseLength (drop at m))) BadFormatHeader (opened (FS ∷ GS ∷ US ∷ []) (drop releaseLength (drop at m)) next))
+    ≡ cond (not (ltb (length m) (at + releaseLength)) && every capitalOrDigit (take releaseLength (drop at m)) && beginsAt (FS ∷ GS ∷ US ∷ []) m (at + releaseLength)) there (Refused BadFormatHeader)
+shown-six m at next there inside then =
+    shown-must m (release (take releaseLength (drop at m))) BadFormatHeader _
+    ∙ ap (λ t. cond t (shown m (opened (FS ∷ GS ∷ US ∷ []) (drop releaseLength (drop at m)) next)) (Refused BadFormatHeader)) (six-there (drop at m))
+    ∙ ap (λ t. cond (not t && every capitalOrDigit (take releaseLength (drop at m))) (shown m (opened (FS ∷ GS ∷ US ∷ []) (drop releaseLength (drop at m)) next)) (Refused BadFormatHeader)) same-length
+    ∙ by (ltb (length m) (at + releaseLength)) (every capitalOrDigit (take releaseLength (drop at m))) refl
+  where
+    same-length : ltb (length (drop at m)) releaseLength ≡ ltb (length m) (at + releaseLength)
+    same-length = let long = length-drop at m in leb-same (suc (length (drop at m))) releaseLength (suc (length m)) (at + releaseLength) (λ h. omega arith) (λ h. omega arith)
+
+    by : (t u : Bool) → ltb (length m) (at + releaseLength) ≡ t
+        → cond (not t && u) (shown m (opened (FS ∷ GS ∷ US ∷ []) (drop releaseLength (drop at m)) next)) (Refused BadFormatHeader)
+        ≡ cond (not t && u && beginsAt (FS ∷ GS ∷ US ∷ []) m (at + releaseLength)) there (Refused BadFormatHeader)
+    by true u short = refl
+    by false false enough = refl
+    by false true enough =
+        let long = ltb-false (length m) (at + releaseLength) enough in
+        ap (λ l. shown m (opened (FS ∷ GS ∷ US ∷ []) l next)) (drop-drop releaseLength at m)
+        ∙ shown-opened m (FS ∷ GS ∷ US ∷ []) (at + releaseLength) next there long then
+
+pub shown-03 : (m : Bytes) (at : ℕ) → at ≤ length m → shown m (readSegments tag03 3 (drop at m)) ≡ segmentsFound Segments03 m at
+unfolding readSegments
+shown-03 m at inside =
+    shown-six m at _ (bodyFound Segments03 2 m (at + releaseLength + 3)) inside
+    (λ long. shown-body Segments03 2 m (at + releaseLength + 3) (λ body. segments 3 (take releaseLength (drop at m)) (segmentsIn body)) long (λ body kept. segment-rows 3 (take releaseLength (drop at m)) tag03 body kept))
+
+pub shown-04 : (m : Bytes) (at : ℕ) → at ≤ length m → shown m (readSegments tag 4 (drop at m)) ≡ segmentsFound Segments04 m at
+unfolding readSegments
+shown-04 m at inside =
+    shown-six m at _ (bodyFound Segments04 2 m (at + releaseLength + 3)) inside
+    (λ long. shown-body Segments04 2 m (at + releaseLength + 3) (λ body. segments 4 (take releaseLength (drop at m)) (segmentsIn body)) long (λ body kept. segment-rows 4 (take releaseLength (drop at m)) tag body kept))
+
+-- 01
+
+field-rows : (f : ℕ) (v : Version) (body : Bytes) → rowCount (fields f v (pieces GS body)) ≡ 2 + (tallyOf GS body + 1)
+unfolding parts
+field-rows f v body = omega (arith, items-pieces GS pieceRow f (pieces GS body), pieces-count GS body)
+
+-- with its version
+transport-with : (v : Version) (f : ℕ) (bs : Bytes) → agreement (GS ∷ versionDigits v) bs ≡ 3 → readTransport f bs ≡ readFields f (some v) (drop 3 bs)
+unfolding readTransport versionOf
+transport-with version02 f bs is = ap (readTransport f) (begins (GS ∷ versionDigits version02) bs (omega arith))
+transport-with version96 f bs is = ap (readTransport f) (begins (GS ∷ versionDigits version96) bs (omega arith))
+
+-- with neither
+transport-without : (f : ℕ) (bs : Bytes) → ((v : Version) → agreement (GS ∷ versionDigits v) bs ≡ 3 → ⊥) → readTransport f bs ≡ refuse BadFormatHeader
+unfolding readTransport readFields
+transport-without f [] none-there = refl
+transport-without f (b ∷ bs) none-there = by (eqb b GS) refl
+  where
+    full : (v : Version) (rest : Bytes) → agreement (GS ∷ versionDigits v) (GS ∷ (versionDigits v ++ rest)) ≡ 3
+    full version02 rest = refl
+    full version96 rest = refl
+
+    by-version : (o : Option Version) → b ≡ GS → versionOf (take 2 bs) ≡ o → readFields f o (drop 2 bs) ≡ refuse BadFormatHeader
+    by-version none is e = refl
+    by-version (some v) is e =
+        absurd (none-there v ((λ i. agreement (GS ∷ versionDigits v) (is i ∷ (sym (take-append-drop 2 bs) ∙ ap (λ x. x ++ drop 2 bs) (version-so (take 2 bs) v e)) i)) ∙ full v (drop 2 bs)))
+
+    by : (t : Bool) → eqb b GS ≡ t → must t BadFormatHeader (readFields f (versionOf (take 2 bs)) (drop 2 bs)) ≡ refuse BadFormatHeader
+    by true is = by-version (versionOf (take 2 bs)) (eqb-true b GS is) refl
+    by false is = refl
+
+version-body : (v : Version) (k : Kind) (m : Bytes) (at : ℕ) → at ≤ length m → agreement (GS ∷ versionDigits v) (drop at m) ≡ 3
+    → (at + 3 ≤ length m → shown m (readFields 1 (some v) (drop (at + 3) m)) ≡ bodyFound k 2 m (at + 3)) → shown m (readTransport 1 (drop at m)) ≡ bodyFound k 2 m (at + 3)
+version-body v k m at inside is then =
+    ap (shown m) (transport-with v 1 (drop at m) is ∙ ap (readFields 1 (some v)) (drop-drop 3 at m)) ∙ then (long v is)
+  where
+    long : (v : Version) → agreement (GS ∷ versionDigits v) (drop at m) ≡ 3 → at + 3 ≤ length m
+    long version02 is = begins-long (GS ∷ versionDigits version02) m at inside is
+    long version96 is = begins-long (GS ∷ versionDigits version96) m at inside is
+
+pub shown-01 : (m : Bytes) (at : ℕ) → at ≤ length m → shown m (readTransport 1 (drop at m)) ≡ transportFound m at
+unfolding readFields
+shown-01 m at inside = by (beginsAt (GS ∷ ascii "02") m at) (beginsAt (GS ∷ ascii "96") m at) refl refl
+  where
+    by : (s t : Bool) → beginsAt (GS ∷ ascii "02") m at ≡ s → beginsAt (GS ∷ ascii "96") m at ≡ t
+        → shown m (readTransport 1 (drop at m)) ≡ cond s (bodyFound Fields02 2 m (at + 3)) (cond t (bodyFound Fields96 2 m (at + 3)) (Refused BadFormatHeader))
+    by true t p q = version-body version02 Fields02 m at inside (eqb-true _ 3 p) (λ long. shown-body Fields02 2 m (at + 3) (λ body. fields 1 version02 (pieces GS body)) long (λ body kept. field-rows 1 version02 body))
+    by false true p q = version-body version96 Fields96 m at inside (eqb-true _ 3 q) (λ long. shown-body Fields96 2 m (at + 3) (λ body. fields 1 version96 (pieces GS body)) long (λ body kept. field-rows 1 version96 body))
+    by false false p q = ap (shown m) (transport-without 1 (drop at m) neither)
+      where
+        neither : (v : Version) → agreement (GS ∷ versionDigits v) (drop at m) ≡ 3 → ⊥
+        neither version02 is = eqb-false _ 3 p is
+        neither version96 is = eqb-false _ 3 q is
+
+-- 09
+
+-- whatever the header values before are called, the same is shown
+pub shown-payload : (m : Bytes) (at n : ℕ) (made : Bytes → Envelope) → at ≤ length m → ((payload : Bytes) → rowCount (made payload) ≡ 5) → shown m (readPayload n made (drop at m)) ≡ payloadFound n m at
+unfolding readPayload
+shown-payload m at n made inside five = shown-must m (ltb n (length (drop at m)) && eqb (getD (drop at m) n 0) RS) _ _ ∙ by (ltb n (length (drop at m))) (eqb (getD (drop at m) n 0) RS) refl
+  where
+    by : (s t : Bool) → ltb n (length (drop at m)) ≡ s → cond (s && t) (shown m (closed (made (take n (drop at m))) (drop (n + 1) (drop at m)))) (Refused PayloadDoesNotFit) ≡ cond (s && t) (Closed (at + n + 1) 5) (Refused PayloadDoesNotFit)
+    by true true h =
+        let fits = ltb-true n (length (drop at m)) h in
+        let long = length-drop at m in
+        let left = length-drop (n + 1) (drop at m) in
+        let end : length m - length (drop (n + 1) (drop at m)) ≡ at + n + 1 = omega arith in
+        λ i. Closed (end i) (five (take n (drop at m)) i)
+    by true false h = refl
+    by false t h = refl
+
+-- a header value that runs to the next GS: it ends before the message does, or is refused
+module _ (least most : ℕ) (class : ℕ → Bool) (m : Bytes) (at : ℕ) (inside : at ≤ length m) (next : Bytes → Bytes → Step) (there : ℕ → Found)
+    (then : (end : ℕ) → end ≡ valueEnd least most class m at → end < length m → shown m (next (take (end - at) (drop at m)) (drop (end + 1) m)) ≡ there (end + 1)) where
+  shown-valued : shown m (valued (λ v. longAs (least to most) v && every class v) (drop at m) next) ≡ afterValue m (valueEnd least most class m at) there
+  unfolding longAs
+  shown-valued = by-gs (ltb n (length bs)) refl
+    where
+      bs : Bytes
+      bs = drop at m
+
+      n : ℕ
+      n = seek GS bs
+
+      refused-there : (end : ℕ) → end ≡ length m → Refused BadFormatHeader ≡ afterValue m end there
+      refused-there end is = sym (cond-no _ _ _ (le-ltb end (length m) (omega arith)))
+
+      by-test : (a w : Bool) → (leb least n && leb n most) ≡ a → every class (take n bs) ≡ w → n < length bs
+          → shown m (must (a && w) BadFormatHeader (next (take n bs) (drop (n + 1) bs))) ≡ afterValue m (cond (true && a && w) (at + n) (length m)) there
+      by-test true true p q here =
+          let long = length-drop at m in
+          let less : at + n < length m = omega arith in
+          let first : at + n - at ≡ n = omega arith in
+          let behind : at + (n + 1) ≡ at + n + 1 = omega arith in
+          (λ i. shown m (next (take (sym first i) bs) ((drop-drop (n + 1) at m ∙ ap (λ k. drop k m) behind) i)))
+          ∙ then (at + n) (sym (cond-yes _ _ _ (and-both (and-both (lt-ltb n (length bs) here) p) q))) less
+          ∙ sym (cond-yes _ _ _ (lt-ltb (at + n) (length m) less))
+      by-test true false p q here = refused-there (length m) refl
+      by-test false w p q here = refused-there (length m) refl
+
+      by-gs : (t : Bool) → ltb n (length bs) ≡ t → shown m (valuedAt (λ v. longAs (least to most) v && every class v) next (cut GS bs)) ≡ afterValue m (cond (t && (leb least n && leb n most) && every class (take n bs)) (at + n) (length m)) there
+      by-gs true here =
+          let less = ltb-true n (length bs) here in
+          let long = length-take-le n bs (omega arith) in
+          ap (λ c. shown m (valuedAt (λ v. longAs (least to most) v && every class v) next c)) (cut-found GS bs less)
+          ∙ ap (λ l. shown m (must (leb least l && leb l most && every class (take n bs)) BadFormatHeader (next (take n bs) (drop (n + 1) bs)))) long
+          ∙ by-test (leb least n && leb n most) (every class (take n bs)) refl refl less
+      by-gs false past = ap (λ c. shown m (valuedAt (λ v. longAs (least to most) v && every class v) next c)) (cut-absent GS bs (ltb-false n (length bs) past)) ∙ refused-there (length m) refl
+
+count-step : (m : Bytes) (at : ℕ) (t c : Bytes) → at ≤ length m → shown m (valued count (drop at m) λ n rest. readPayload (value n) (counted 9 t c n) rest) ≡ countFound m at
+unfolding count parts
+count-step m at t c inside =
+    shown-valued 1 15 digit m at inside (λ n rest. readPayload (value n) (counted 9 t c n) rest) (payloadFound (value (take (valueEnd 1 15 digit m at - at) (drop at m))) m)
+    (λ end is less.
+    shown-payload m (end + 1) (value (take (end - at) (drop at m))) (counted 9 t c (take (end - at) (drop at m))) (omega arith) (λ payload. refl)
+    ∙ ap (λ e. payloadFound (value (take (e - at) (drop at m))) m (end + 1)) is)
+
+compression-step : (m : Bytes) (at : ℕ) (t : Bytes) → at ≤ length m
+    → shown m (valued compression (drop at m) λ c rest. valued count rest λ n rest. readPayload (value n) (counted 9 t c n) rest) ≡ compressionFound m at
+unfolding compression
+compression-step m at t inside =
+    shown-valued 0 30 plain m at inside (λ c rest. valued count rest λ n rest. readPayload (value n) (counted 9 t c n) rest) (countFound m)
+    (λ end is less. count-step m (end + 1) t (take (end - at) (drop at m)) (omega arith))
+
+pub shown-09 : (m : Bytes) (at : ℕ) → at ≤ length m → shown m (readCounted 9 (drop at m)) ≡ countedFound m at
+unfolding readCounted payloadType
+shown-09 m at inside =
+    shown-opened m (GS ∷ []) at _ (afterValue m (valueEnd 1 30 plain m (at + 1)) (compressionFound m)) inside
+    (λ long.
+    shown-valued 1 30 plain m (at + 1) long (λ t rest. valued compression rest λ c rest. valued count rest λ n rest. readPayload (value n) (counted 9 t c n) rest) (compressionFound m)
+    (λ end is less. compression-step m (end + 1) (take (end - (at + 1)) (drop (at + 1) m)) (omega arith)))

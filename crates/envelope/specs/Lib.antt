@@ -1,0 +1,4 @@
+pub mod Shown
+pub mod Headers
+pub mod Bodies
+pub mod Formats

@@ -1,0 +1,30 @@
+-- How far bytes agree with a text, from an index of each on: not at all where one of them ends or they differ, else by one more than behind it.
+use Prim.Native.Nat.{ℕ, suc, _+_, _≤_, _<_}
+use mathlib.Core.Path.{_≡_, refl, ap, _∙_}
+use mathlib.Core.Bool.{cond}
+use mathlib.Core.List.{[], _∷_}
+use borrow.Author.Tests.{eq-eqb, ne-eqb}
+use lib.ListN.{length, getD, drop}
+use lib.Dec.{eqb}
+use Rattle.label.specs.Bytes.{Bytes}
+use Rattle.label.specs.ReadMessage.{agreement}
+use Rattle.leaves.proofs.Turns.{drop-step, drop-past}
+
+agree-none : (text : Bytes) → agreement text [] ≡ 0
+agree-none [] = refl
+agree-none (h ∷ hs) = refl
+
+pub agree-short : (text m : Bytes) (i j : ℕ) → length m ≤ j → agreement (drop i text) (drop j m) ≡ 0
+agree-short text m i j past = ap (agreement (drop i text)) (drop-past m j past) ∙ agree-none (drop i text)
+
+pub agree-end : (text m : Bytes) (i j : ℕ) → length text ≤ i → agreement (drop i text) (drop j m) ≡ 0
+agree-end text m i j past = ap (λ t. agreement t (drop j m)) (drop-past text i past)
+
+agree-step : (text m : Bytes) (i j : ℕ) → i < length text → j < length m → agreement (drop i text) (drop j m) ≡ cond (eqb (getD m j 0) (getD text i 0)) (suc (agreement (drop (i + 1) text) (drop (j + 1) m))) 0
+agree-step text m i j hi hj = λ k. agreement (drop-step text i hi k) (drop-step m j hj k)
+
+pub agree-differ : (text m : Bytes) (i j : ℕ) → i < length text → j < length m → (getD m j 0 ≡ getD text i 0 → ⊥) → agreement (drop i text) (drop j m) ≡ 0
+agree-differ text m i j hi hj differ = agree-step text m i j hi hj ∙ ap (λ t. cond t (suc (agreement (drop (i + 1) text) (drop (j + 1) m))) 0) (ne-eqb _ _ differ)
+
+pub agree-on : (text m : Bytes) (i j : ℕ) → i < length text → j < length m → getD m j 0 ≡ getD text i 0 → agreement (drop i text) (drop j m) ≡ suc (agreement (drop (i + 1) text) (drop (j + 1) m))
+agree-on text m i j hi hj same = agree-step text m i j hi hj ∙ ap (λ t. cond t (suc (agreement (drop (i + 1) text) (drop (j + 1) m))) 0) (eq-eqb _ _ same)
