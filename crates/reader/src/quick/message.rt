@@ -79,10 +79,11 @@ fn framed(m: &[u8]) -> bool
         return false;
     }
     let last = m.len() - 1;
-    (m[0] == HEADER[0])
-        & (m[1] == HEADER[1])
-        & (m[2] == HEADER[2])
-        & (m[3] == HEADER[3])
+    let begin = HEADER;
+    (m[0] == begin[0])
+        & (m[1] == begin[1])
+        & (m[2] == begin[2])
+        & (m[3] == begin[3])
         & (m[last] == EOT)
 }
 
