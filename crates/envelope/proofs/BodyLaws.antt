@@ -8,6 +8,7 @@ use lib.ListN.{length, take, drop, length-take, length-drop}
 use lib.Dec.{ltb}
 use Rattle.label.specs.declared.Reason.the-variants.{ByteNotPermitted, BodyBreaksRules, NoRecordSeparator}
 use Rattle.label.specs.Bytes.{Bytes, GS, RS, every}
+use Rattle.label.proofs.Tests.{cond-yes, cond-no}
 use Rattle.leaves.specs.Seek.{seek}
 use Rattle.pieces.specs.declared.Kind.{Kind}
 use Rattle.pieces.specs.declared.Kind.the-variants.{Fields02, Fields96, Segments03, Segments04, Elements05, Elements06, Text}
@@ -16,12 +17,6 @@ use Rattle.bodies.proofs.RuleLaws.{rows-inside, tally-inside}
 use Rattle.envelope.specs.declared.Found.{Found}
 use Rattle.envelope.specs.declared.Found.the-variants.{Closed, Refused}
 use Rattle.envelope.specs.Bodies.{bodyFound}
-
-pub cond-yes : {A : Type 0} (t : Bool) (x y : A) → t ≡ true → cond t x y ≡ x
-cond-yes t x y h = ap (λ s. cond s x y) h
-
-pub cond-no : {A : Type 0} (t : Bool) (x y : A) → t ≡ false → cond t x y ≡ y
-cond-no t x y h = ap (λ s. cond s x y) h
 
 module _ (k : Kind) (before : ℕ) (m : Bytes) (at end : ℕ) (inside : at ≤ length m) (is : end ≡ at + seek RS (drop at m)) where
   abbrev n : ℕ

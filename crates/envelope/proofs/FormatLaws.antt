@@ -22,7 +22,7 @@ use Rattle.label.specs.Envelope.{Envelope, fields, wholeRest, segments, element
 use Rattle.label.specs.Written.{pieceRow, parts}
 use Rattle.label.specs.ReadEnvelope.{Step, closed, whole, refuse, must, opened, valuedAt, valued, bodyAt, bodied, versionOf, readFields, readTransport, readRest, segmentsIn, areSegments, readSegments, readElements, readText, readPayload, readCounted}
 use Rattle.label.specs.ReadMessage.{agreement}
-use Rattle.label.proofs.Tests.{both, and-both}
+use Rattle.label.proofs.Tests.{both, and-both, cond-yes, cond-no}
 use Rattle.label.proofs.EnvelopeSound.{version-so}
 use Rattle.label.proofs.ReadingSound.{begins}
 use Rattle.leaves.specs.Seek.{seek, tallyOf}
@@ -38,7 +38,6 @@ use Rattle.envelope.specs.Shown.{rowCount, shown}
 use Rattle.envelope.specs.Bodies.{bodyFound}
 use Rattle.envelope.specs.Headers.{valueEnd}
 use Rattle.envelope.specs.Formats.{beginsAt, transportFound, restFound, segmentsFound, elementsFound, payloadFound, afterValue, countFound, compressionFound, countedFound}
-use Rattle.envelope.proofs.BodyLaws.{cond-yes, cond-no}
 use Rattle.envelope.proofs.ValueLaws.{begins-long}
 use Rattle.envelope.proofs.RowCounts.{items-pieces, rows-segments}
 

@@ -17,7 +17,7 @@ use Rattle.label.specs.Layout.{allNumbers}
 use Rattle.label.specs.Message.{rowsOf}
 use Rattle.label.specs.ReadMessage.{Outcome, read, refused, reading}
 use Rattle.label.specs.Answer.{accepted, refusal, roomOf, answered, readAnswer, overlaid, filled, tableAfter, rowsRead}
-use Rattle.envelope.proofs.BodyLaws.{cond-yes, cond-no}
+use Rattle.label.proofs.Tests.{cond-yes, cond-no}
 use Rattle.judge.specs.Shown.{judgedAs}
 use Rattle.judge.proofs.Judged.{rows-judged}
 use Rattle.exact.specs.Tables.{Room}

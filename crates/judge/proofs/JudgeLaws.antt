@@ -19,7 +19,7 @@ use Rattle.label.specs.Message.{header, isRestAlone, messageParts, rowsOf}
 use Rattle.label.specs.ReadMessage.{Outcome, read, refused, walk, enough, agreement, withinRows, reading, unboundedWalk}
 use Rattle.label.proofs.Walk.{bound-is-enough}
 use Rattle.label.proofs.RowItems.{rows-items}
-use Rattle.envelope.proofs.BodyLaws.{cond-yes, cond-no}
+use Rattle.label.proofs.Tests.{cond-yes, cond-no}
 use Rattle.envelope.proofs.RowCounts.{items-append}
 use Rattle.judge.specs.Shown.{judgedAs, totalRows, tallied, limited}
 

@@ -20,10 +20,10 @@ use Rattle.label.specs.ReadEnvelope.{Step, closed, whole, refuse, readEnvelope}
 use Rattle.label.specs.ReadMessage.{Outcome, read, refused, placeOf, andThen, afterTrailer, atBoundary, follow, unboundedWalk}
 use Rattle.label.proofs.EnvelopeSound.{StepSo, step-so}
 use Rattle.label.proofs.Walk.{one-step-then-walk}
+use Rattle.label.proofs.Tests.{cond-yes, cond-no}
 use Rattle.leaves.proofs.Turns.{drop-step, drop-past}
 use Rattle.envelope.specs.declared.Found.the-variants.{Closed, Whole, Refused}
 use Rattle.envelope.specs.Shown.{rowCount, shown}
-use Rattle.envelope.proofs.BodyLaws.{cond-yes, cond-no}
 use Rattle.judge.specs.declared.State.{State}
 use Rattle.judge.specs.declared.Turn.the-variants.{Done, Go}
 use Rattle.judge.specs.Shown.{totalRows, tallied}

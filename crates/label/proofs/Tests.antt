@@ -1,7 +1,7 @@
--- Laws of tests: a conjunction taken apart and put together, a test over a list, over lists behind one another, of the same bytes, and of classes of bytes.
+-- Laws of tests: a conjunction taken apart and put together, a choice by a test, a test over a list, over lists behind one another, of the same bytes, and of classes of bytes.
 use Prim.Native.Nat.{ℕ, _≤_, _<_}
 use mathlib.Core.Path.{_≡_, refl, sym, ap, _∙_}
-use mathlib.Core.Bool.{Bool, true, false, not, _&&_, _||_, false≢true, true≢false}
+use mathlib.Core.Bool.{Bool, true, false, not, _&&_, _||_, cond, false≢true, true≢false}
 use mathlib.Core.List.{List, [], _∷_, _++_}
 use native.Mathlib.Omega.{arith}
 use borrow.Author.Tests.{leb-true, eqb-true, eq-eqb, ne-eqb}
@@ -30,6 +30,13 @@ or-right false p = p
 pub or-not : (a b : Bool) → (a || b) ≡ true → b ≡ false → a ≡ true
 or-not true b h e = refl
 or-not false b h e = absurd (true≢false (sym h ∙ e))
+
+-- what is chosen by a test that holds, and by one that doesn't
+pub cond-yes : {A : Type 0} (t : Bool) (x y : A) → t ≡ true → cond t x y ≡ x
+cond-yes t x y h = ap (λ s. cond s x y) h
+
+pub cond-no : {A : Type 0} (t : Bool) (x y : A) → t ≡ false → cond t x y ≡ y
+cond-no t x y h = ap (λ s. cond s x y) h
 
 -- one test holds wherever another does
 abbrev pub Implies : {A : Type 0} → (A → Bool) → (A → Bool) → Type 0

@@ -8,6 +8,7 @@ use lib.ListN.{length, getD, drop}
 use lib.Dec.{eqb}
 use Rattle.label.specs.Bytes.{Bytes}
 use Rattle.label.specs.ReadMessage.{agreement}
+use Rattle.label.proofs.Tests.{cond-yes, cond-no}
 use Rattle.leaves.proofs.Turns.{drop-step, drop-past}
 
 agree-none : (text : Bytes) → agreement text [] ≡ 0
@@ -24,7 +25,7 @@ agree-step : (text m : Bytes) (i j : ℕ) → i < length text → j < length m �
 agree-step text m i j hi hj = λ k. agreement (drop-step text i hi k) (drop-step m j hj k)
 
 pub agree-differ : (text m : Bytes) (i j : ℕ) → i < length text → j < length m → (getD m j 0 ≡ getD text i 0 → ⊥) → agreement (drop i text) (drop j m) ≡ 0
-agree-differ text m i j hi hj differ = agree-step text m i j hi hj ∙ ap (λ t. cond t (suc (agreement (drop (i + 1) text) (drop (j + 1) m))) 0) (ne-eqb _ _ differ)
+agree-differ text m i j hi hj differ = agree-step text m i j hi hj ∙ cond-no _ _ _ (ne-eqb _ _ differ)
 
 pub agree-on : (text m : Bytes) (i j : ℕ) → i < length text → j < length m → getD m j 0 ≡ getD text i 0 → agreement (drop i text) (drop j m) ≡ suc (agreement (drop (i + 1) text) (drop (j + 1) m))
-agree-on text m i j hi hj same = agree-step text m i j hi hj ∙ ap (λ t. cond t (suc (agreement (drop (i + 1) text) (drop (j + 1) m))) 0) (eq-eqb _ _ same)
+agree-on text m i j hi hj same = agree-step text m i j hi hj ∙ cond-yes _ _ _ (eq-eqb _ _ same)

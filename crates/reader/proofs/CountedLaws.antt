@@ -15,7 +15,7 @@ use Rattle.label.specs.Values.{valueAfter, value}
 use Rattle.label.specs.Formats.{edition2005, ruleOf}
 use Rattle.label.specs.ReadEnvelope.{readBy}
 use Rattle.label.specs.ReadMessage.{agreement}
-use Rattle.label.proofs.Tests.{and-both, Implies, Without, plain-without}
+use Rattle.label.proofs.Tests.{and-both, Implies, Without, plain-without, cond-yes}
 use Rattle.leaves.specs.declared.Class.the-variants.{Plain, Digit}
 use Rattle.leaves.specs.Classes.{classOf}
 use Rattle.leaves.specs.Seek.{seek}
@@ -25,7 +25,6 @@ use Rattle.envelope.specs.declared.Found.the-variants.{Closed}
 use Rattle.envelope.specs.Shown.{shown}
 use Rattle.envelope.specs.Headers.{valueEnd}
 use Rattle.envelope.specs.Formats.{payloadFound, afterValue, countFound, compressionFound, countedFound}
-use Rattle.envelope.proofs.BodyLaws.{cond-yes}
 use Rattle.envelope.proofs.ValueLaws.{value-bytes}
 use Rattle.envelope.proofs.FormatLaws.{shown-09}
 use Rattle.walk.specs.declared.Stage.{Stage}

@@ -15,7 +15,7 @@ use Rattle.label.specs.Values.{value}
 use Rattle.label.specs.Formats.{edition2005, ruleOf, textByte}
 use Rattle.label.specs.ReadEnvelope.{readBy}
 use Rattle.label.specs.ReadMessage.{agreement}
-use Rattle.label.proofs.Tests.{and-both}
+use Rattle.label.proofs.Tests.{and-both, cond-yes}
 use Rattle.leaves.specs.Seek.{seek}
 use Rattle.leaves.proofs.Turns.{drop-step}
 use Rattle.pieces.specs.declared.Kind.{Kind}
@@ -26,7 +26,7 @@ use Rattle.envelope.specs.Shown.{shown}
 use Rattle.envelope.specs.Headers.{indicatorOf}
 use Rattle.envelope.specs.Bodies.{bodyFound}
 use Rattle.envelope.specs.Formats.{beginsAt}
-use Rattle.envelope.proofs.BodyLaws.{cond-yes, body-closed}
+use Rattle.envelope.proofs.BodyLaws.{body-closed}
 use Rattle.envelope.proofs.HeaderLaws.{drop-two, read-some}
 use Rattle.envelope.proofs.FormatLaws.{shown-05, shown-06, shown-07}
 use Rattle.walk.specs.declared.Stage.the-variants.{Indicator, Piece, Body}

@@ -12,7 +12,7 @@ use Rattle.label.specs.Bytes.{Bytes, EOT}
 use Rattle.label.specs.Limits.{mostRows}
 use Rattle.label.specs.Formats.{edition2005}
 use Rattle.label.specs.ReadMessage.{reading, unboundedWalk}
-use Rattle.envelope.proofs.BodyLaws.{cond-no}
+use Rattle.label.proofs.Tests.{cond-no}
 use Rattle.judge.specs.declared.State.{State}
 use Rattle.judge.specs.declared.Turn.the-variants.{Go}
 use Rattle.judge.specs.Shown.{judgedAs, tallied, limited}

@@ -2,7 +2,7 @@
 use mathlib.Core.Path.{sym, ap, _∙_}
 use borrow.Author.Tests.{lt-ltb, le-ltb}
 use Rattle.label.specs.Limits.{mostRows}
-use Rattle.envelope.proofs.BodyLaws.{cond-yes, cond-no}
+use Rattle.label.proofs.Tests.{cond-yes, cond-no}
 use Rattle.judge.specs.Shown.{limited}
 use borrow.Author.Needs.{needs}
 use Rattle.judge.proofs.within_rows.Statement.{statement}

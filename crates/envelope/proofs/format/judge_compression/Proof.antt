@@ -3,8 +3,8 @@ use mathlib.Core.Path.{sym, ap, _∙_}
 use lib.ListN.{length}
 use borrow.Author.Tests.{lt-ltb, le-ltb}
 use Rattle.envelope.specs.Formats.{afterValue, countFound}
-use Rattle.envelope.proofs.BodyLaws.{cond-yes, cond-no}
 use borrow.Author.Needs.{needs}
+use Rattle.label.proofs.Tests.{cond-yes, cond-no}
 use Rattle.envelope.proofs.format.judge_compression.Statement.{statement}
 use Rattle.envelope.proofs.format.judge_compression.Tie as tie
 

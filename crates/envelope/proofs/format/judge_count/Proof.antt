@@ -6,8 +6,8 @@ use lib.ListN.{length, take, drop, length-take}
 use borrow.Author.Tests.{lt-ltb, le-ltb}
 use Rattle.label.specs.Bytes.{digit}
 use Rattle.label.specs.Values.{value}
+use Rattle.label.proofs.Tests.{cond-yes, cond-no}
 use Rattle.envelope.specs.Formats.{payloadFound, afterValue}
-use Rattle.envelope.proofs.BodyLaws.{cond-yes, cond-no}
 use Rattle.envelope.proofs.ValueLaws.{value-inside}
 use borrow.Author.Needs.{needs}
 use Rattle.envelope.proofs.format.judge_count.Statement.{statement}

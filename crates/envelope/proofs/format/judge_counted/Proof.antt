@@ -5,8 +5,8 @@ use mathlib.Core.List.{[], _∷_}
 use lib.ListN.{length}
 use borrow.Author.Tests.{eq-eqb, ne-eqb, lt-ltb, le-ltb}
 use Rattle.label.specs.Bytes.{GS}
+use Rattle.label.proofs.Tests.{cond-yes, cond-no}
 use Rattle.envelope.specs.Formats.{afterValue, compressionFound}
-use Rattle.envelope.proofs.BodyLaws.{cond-yes, cond-no}
 use Rattle.envelope.proofs.ValueLaws.{begins-long}
 use borrow.Author.Needs.{needs}
 use Rattle.envelope.proofs.format.judge_counted.Statement.{statement}

@@ -3,8 +3,8 @@ use mathlib.Core.Path.{sym, ap, _∙_}
 use borrow.Author.Tests.{lt-ltb, le-ltb}
 use Rattle.label.specs.Bytes.{every}
 use Rattle.label.specs.Formats.{restByte}
+use Rattle.label.proofs.Tests.{cond-yes, cond-no}
 use Rattle.leaves.proofs.Turns.{take-rest}
-use Rattle.envelope.proofs.BodyLaws.{cond-yes, cond-no}
 use borrow.Author.Needs.{needs}
 use Rattle.envelope.proofs.format.judge_rest.Statement.{statement}
 use Rattle.envelope.proofs.format.judge_rest.Tie as tie
