@@ -93,5 +93,5 @@ pub enum Writing {
     Declined(WriteReason),
 }
 
-// The least and the greatest length of a transport field. In a byte each, since `numbers` lays its table out anew at each call.
+// The least and the greatest length of a transport field. In a byte each, since `limits` lays its table out anew at each call.
 pub struct Limit(pub u8, pub u8);

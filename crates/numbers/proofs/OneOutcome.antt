@@ -2,12 +2,8 @@
 -- lifetimes, arguments, answer, and what lent memory holds afterwards.
 use mathlib.Core.Path.{_≡_, sym, _∙_}
 use contract.Lifetimes.{Lfts}
-use Rattle.numbers.proofs.limits_of.Reads as limits-of
 use Rattle.numbers.proofs.number_of.Reads as number-of
 use Rattle.numbers.proofs.write_number_of.Reads as write-number-of
-
-pub limits-of-once : (κs : Lfts 0) (a : _) (r r′ : _) (s s′ : _) → limits-of.Learnt κs a r s → limits-of.Learnt κs a r′ s′ → r ≡ r′
-limits-of-once κs a r r′ s s′ one two = one ∙ sym two
 
 pub number-of-once : (κs : Lfts 0) (a : _) (r r′ : _) (s s′ : _) → number-of.Learnt κs a r s → number-of.Learnt κs a r′ s′ → r ≡ r′
 number-of-once κs a r r′ s s′ one two = one ∙ sym two

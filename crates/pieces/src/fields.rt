@@ -57,7 +57,7 @@ fn field_bytes(i: usize, s: &[u8]) -> bool
 pub(crate) fn field_holds(row: usize, i: usize, s: &[u8]) -> bool
     ensures { λ r. ⌜ r ≡ fieldIn row i (now (s .entry)) ⌝ }
 {
-    let limit = numbers::limits_of(row, i);
+    let limit = limits::limits_of(row, i);
     let fits = (limit.0 as usize <= s.len()) & (s.len() <= limit.1 as usize);
     let right = field_bytes(i, s);
     (fits & right) | ((LEAST_FIELDS <= i) & (s.len() == 0))

@@ -37,7 +37,7 @@ const SHORTEST: usize = FIRST + 4;
 fn in_limits(row: usize, i: usize, size: usize) -> bool
     ensures { λ r. ⌜ r ≡ fitsIn row i size ⌝ }
 {
-    let limit = numbers::limits_of(row, i);
+    let limit = limits::limits_of(row, i);
     ((limit.0 as usize <= size) & (size <= limit.1 as usize)) | ((LEAST_FIELDS <= i) & (size == 0))
 }
 

@@ -5,8 +5,8 @@ use Prim.Native.Nat.{ℕ, zero, suc, _≤_}
 use borrow.Author.Needs.{needs}
 use lib.ListN.{getD, List·getD-eq-default}
 use Rattle.label.specs.Limits.{limits, limitOf, _to_}
-use Rattle.numbers.proofs.limits_of.Statement.{statement}
-use Rattle.numbers.proofs.limits_of.Tie as tie
+use Rattle.limits.proofs.limits_of.Statement.{statement}
+use Rattle.limits.proofs.limits_of.Tie as tie
 
 no-such-version : (version field : ℕ) → 2 ≤ version → limitOf version field ≡ 0 to 0
 no-such-version version field past = ap (λ row. getD row field (0 to 0)) (List·getD-eq-default limits [] past)
