@@ -79,7 +79,7 @@ fn last_empty(s: &[u8], c: u8) -> bool
 fn fields_hold(k: Kind, most: usize, body: &[u8]) -> bool
     ensures { λ r. ⌜ r ≡ fieldsOf (pieceTest k) most (pieces (separatorOf k) (now (body .entry))) (now (body .entry)) ⌝ }
 {
-    let gs = leaves::tally(body, GS);
+    let gs = tallies::tally(body, GS);
     let all = pieces_hold(k, body);
     let ends = last_empty(body, GS);
     (LEAST_SEPARATORS <= gs) & (gs < most) & all & ((gs == LEAST_SEPARATORS) | !ends)
@@ -118,9 +118,9 @@ pub fn rules_hold(k: Kind, body: &[u8]) -> bool
 fn segment_rows(body: &[u8]) -> usize
     ensures { λ r. ⌜ r ≡ rowsOfBody Kind.Segments03 (now (body .entry)) ⌝ }
 {
-    let fs = leaves::tally(body, FS);
-    let gs = leaves::tally(body, GS);
-    let us = leaves::tally(body, US);
+    let fs = tallies::tally(body, FS);
+    let gs = tallies::tally(body, GS);
+    let us = tallies::tally(body, US);
     fs + gs + us
 }
 
@@ -128,7 +128,7 @@ fn segment_rows(body: &[u8]) -> usize
 fn piece_rows(body: &[u8]) -> usize
     ensures { λ r. ⌜ r ≡ rowsOfBody Kind.Elements06 (now (body .entry)) ⌝ }
 {
-    leaves::tally(body, GS) + 1
+    tallies::tally(body, GS) + 1
 }
 
 // How many rows a body has.

@@ -56,7 +56,7 @@ pub fn judge(m: &[u8]) -> Reading
         return refusal(Reason::TooLong, LONGEST);
     }
     let begin = HEADER;
-    let agreed = leaves::agree(m, 0, &begin);
+    let agreed = tallies::agree(m, 0, &begin);
     if agreed < HEADER_LENGTH {
         return refusal(Reason::NoMessageHeader, agreed);
     }

@@ -1,4 +1,5 @@
--- One turn of a loop over bytes: what a test of all, a search and a tally say of the bytes from an index on, by the byte at the index and those behind it.
+-- One turn of a loop over bytes: what a test of all and a search say of the bytes from an index on, by the byte at the index and those behind it; and what
+-- a search and a tally say of bytes in front of others.
 use Prim.Native.Nat.{ℕ, zero, suc, _+_, _-_, _≤_, _<_}
 use mathlib.Core.Path.{_≡_, refl, sym, ap, _∙_}
 use mathlib.Core.Bool.{Bool, true, false, not, _&&_, cond}
@@ -7,7 +8,6 @@ use native.Mathlib.Omega.{arith}
 use native.Mathlib.Numerals.{add-one}
 use borrow.Author.Tests.{eq-eqb, ne-eqb}
 use lib.Dec.{eqb}
-use mir.Val.{boolByte}
 use lib.ListN.{length, getD, take, drop, length-drop, length-take, take-append-drop}
 use lib.Seq.{drop-cons, take-all, drop-drop}
 use Rattle.label.specs.Bytes.{Bytes, every}
@@ -46,21 +46,6 @@ seek-on c s i inside not = ap (seek c) (drop-step s i inside) ∙ ap (λ t. cond
 pub seek-past : (c : ℕ) (s : Bytes) (i : ℕ) → length s ≤ i → seek c (drop i s) ≡ 0
 seek-past c s i past = ap (seek c) (drop-past s i past)
 
--- a byte counts 1 where it is c, and 0 elsewhere
-pub byte-small : (t : Bool) → boolByte t ≤ 1
-byte-small true = omega arith
-byte-small false = omega arith
-
-byte-counts : (t : Bool) (n : ℕ) → boolByte t + n ≡ cond t (suc n) n
-byte-counts true n = omega arith
-byte-counts false n = omega arith
-
-pub tally-turn : (c : ℕ) (s : Bytes) (i : ℕ) → i < length s → boolByte (eqb (getD s i 0) c) + tallyOf c (drop (i + 1) s) ≡ tallyOf c (drop i s)
-tally-turn c s i inside = byte-counts (eqb (getD s i 0) c) (tallyOf c (drop (i + 1) s)) ∙ sym (ap (tallyOf c) (drop-step s i inside))
-
-pub tally-past : (c : ℕ) (s : Bytes) (i : ℕ) → length s ≤ i → tallyOf c (drop i s) ≡ 0
-tally-past c s i past = ap (tallyOf c) (drop-past s i past)
-
 -- a part that runs to the end
 pub take-rest : {A : Type 0} (s : List A) (i : ℕ) → take (length s - i) (drop i s) ≡ drop i s
 take-rest s i = take-all (length s - i) (drop i s) (omega (arith, length-drop i s))
@@ -88,21 +73,3 @@ tally-behind c (b ∷ p) rest = by (eqb b c) (tally-behind c p rest)
         → cond t (suc (tallyOf c (p ++ rest))) (tallyOf c (p ++ rest)) ≡ cond t (suc (tallyOf c p)) (tallyOf c p) + tallyOf c rest
     by true same = omega arith
     by false same = same
-
-tally-long : (c : ℕ) (s : Bytes) → tallyOf c s ≤ length s
-tally-long c [] = omega arith
-tally-long c (b ∷ s) = by (eqb b c) (tally-long c s)
-  where
-    by : (t : Bool) → tallyOf c s ≤ length s → cond t (suc (tallyOf c s)) (tallyOf c s) ≤ suc (length s)
-    by true few = omega arith
-    by false few = omega arith
-
--- the next bytes are counted, and those behind them; and they are no more than their number
-pub tally-block : (c : ℕ) (s : Bytes) (i n : ℕ) → tallyOf c (take n (drop i s)) + tallyOf c (drop (i + n) s) ≡ tallyOf c (drop i s)
-tally-block c s i n =
-    ap (λ l. tallyOf c (take n (drop i s)) + tallyOf c l) (sym (drop-drop n i s))
-    ∙ sym (tally-behind c (take n (drop i s)) (drop n (drop i s)))
-    ∙ ap (tallyOf c) (take-append-drop n (drop i s))
-
-pub tally-few : (c : ℕ) (s : Bytes) (n : ℕ) → tallyOf c (take n s) ≤ n
-tally-few c s n = omega (arith, tally-long c (take n s), length-take n s)

@@ -1,16 +1,12 @@
-// What is asked of a stretch of bytes: whether all are of a class, where a byte is, how often, how far they agree with a text. Every function
-// takes every input.
-mod text;
-
-pub use text::agree;
+// What is asked of a stretch of bytes: whether all are of a class, and where a byte is. Every function takes every input.
 ghost use mathlib.Core.Path.{_≡_};
 ghost use mathlib.Core.Bool.{not};
-ghost use Prim.Native.Nat.{_+_, _-_, _≤_};
+ghost use Prim.Native.Nat.{_+_, _-_};
 ghost use lib.Dec.{eqb};
-ghost use lib.ListN.{length, drop};
+ghost use lib.ListN.{drop};
 ghost use Rattle.label.specs.Bytes.{every};
 ghost use Rattle.leaves.specs.Classes.{classOf};
-ghost use Rattle.leaves.specs.Seek.{seek, tallyOf};
+ghost use Rattle.leaves.specs.Seek.{seek};
 
 // Control bytes (001, clause 4).
 pub const EOT: u8 = 0x04;
@@ -110,39 +106,4 @@ pub fn find_far(s: &[u8], from: usize, c: u8) -> usize
         i += 64;
     }
     find(s, i, c)
-}
-
-// A byte as a number to count with.
-fn wide(x: u8) -> usize
-    ensures { λ r. ⌜ r ≡ x ⌝ }
-{
-    x as usize
-}
-
-// How many of a few bytes are c: counted in a byte, so that many go at a time.
-fn tally_few(s: &[u8], c: u8) -> u8
-    requires { ⌜ length (now s) ≤ 64 ⌝ }
-    ensures { λ r. ⌜ r ≡ tallyOf c (now (s .entry)) ⌝ }
-{
-    let mut n: u8 = 0;
-    let mut i = 0;
-    while i < s.len() {
-        n = n + ((s[i] == c) as u8);
-        i += 1;
-    }
-    n
-}
-
-// How many bytes are c, 64 bytes at a time.
-pub fn tally(s: &[u8], c: u8) -> usize
-    ensures { λ r. ⌜ r ≡ tallyOf c (now (s .entry)) ⌝ }
-{
-    let starts = block_starts(s.len());
-    let mut n = 0;
-    let mut i = 0;
-    while i < starts {
-        n = n + wide(tally_few(&s[i..i + 64], c));
-        i += 64;
-    }
-    n + wide(tally_few(&s[i..], c))
 }

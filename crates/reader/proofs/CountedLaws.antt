@@ -19,7 +19,7 @@ use Rattle.label.proofs.Tests.{and-both, Implies, Without, plain-without, cond-
 use Rattle.leaves.specs.declared.Class.the-variants.{Plain, Digit}
 use Rattle.leaves.specs.Classes.{classOf}
 use Rattle.leaves.specs.Seek.{seek}
-use Rattle.leaves.proofs.Agreement.{agree-on}
+use Rattle.tallies.proofs.Agreement.{agree-on}
 use Rattle.envelope.specs.declared.Found.{Found}
 use Rattle.envelope.specs.declared.Found.the-variants.{Closed}
 use Rattle.envelope.specs.Shown.{shown}

@@ -22,7 +22,7 @@ use Rattle.label.proofs.Splitting.{pieces-some, pieces-front}
 use Rattle.label.proofs.SegmentLaws.{segmentCut}
 use Rattle.leaves.specs.Seek.{seek, tallyOf}
 use Rattle.leaves.proofs.Turns.{drop-step, seek-behind, tally-behind}
-use Rattle.leaves.proofs.Agreement.{agree-on}
+use Rattle.tallies.proofs.Agreement.{agree-on}
 use Rattle.pieces.specs.declared.Kind.the-variants.{Segments03, Segments04}
 use Rattle.bodies.proofs.PieceLaws.{leb-same}
 use Rattle.envelope.specs.declared.Found.{Found}

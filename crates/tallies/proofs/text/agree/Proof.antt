@@ -4,11 +4,11 @@ use native.Mathlib.Omega.{arith}
 use Prim.Native.Nat.{_+_, _-_, _≤_}
 use lib.ListN.{length, drop}
 use Rattle.label.specs.ReadMessage.{agreement}
-use Rattle.leaves.proofs.Agreement.{agree-short, agree-end, agree-differ, agree-on}
+use Rattle.tallies.proofs.Agreement.{agree-short, agree-end, agree-differ, agree-on}
 use native.Mathlib.Nat.{zero-add, add-zero, add-assoc}
 use borrow.Author.Needs.{needs}
-use Rattle.leaves.proofs.text.agree.Statement.{statement}
-use Rattle.leaves.proofs.text.agree.Tie as tie
+use Rattle.tallies.proofs.text.agree.Statement.{statement}
+use Rattle.tallies.proofs.text.agree.Tie as tie
 
 abbrev Inv-loop : tie.InvT-loop
 Inv-loop m at text i₀ i = (i ≤ length text) × (at + i ≤ length m) × (i + agreement (drop i text) (drop (at + i) m) ≡ agreement text (drop at m))

@@ -5,10 +5,10 @@ use native.Mathlib.Omega.{arith}
 use borrow.Author.Needs.{needs}
 use lib.Dec.{eqb}
 use lib.ListN.{length, getD, drop}
 use Rattle.leaves.specs.Seek.{tallyOf}
-use Rattle.leaves.proofs.Turns.{byte-small, tally-turn, tally-past}
-use Rattle.leaves.proofs.tally_few.Statement.{statement}
-use Rattle.leaves.proofs.tally_few.Tie as tie
+use Rattle.tallies.proofs.TallyTurns.{byte-small, tally-turn, tally-past}
+use Rattle.tallies.proofs.tally_few.Statement.{statement}
+use Rattle.tallies.proofs.tally_few.Tie as tie
 
 abbrev Inv-loop : tie.InvT-loop
 Inv-loop s c n₀ i₀ n i = (i ≤ length s) × (n ≤ i) × (n + tallyOf c (drop i s) ≡ tallyOf c s)
