@@ -2174,7 +2174,8 @@ int main(int argc, char **argv)
         fprintf(stderr, "differential [SEED [CASES [FIRST]]]\n");
         return 2;
     }
-    printf("seed %llu, %llu cases\n", (unsigned long long)run_seed, (unsigned long long)cases);
+    printf("seed %llu, %llu cases from case %llu on\n", (unsigned long long)run_seed,
+           (unsigned long long)cases, (unsigned long long)first);
     fflush(stdout);
     make_pattern();
     if (!reference_allows_null()) {
