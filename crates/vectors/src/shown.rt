@@ -95,17 +95,16 @@ fn print_control(b: u8) {
         io::write_all(STDOUT_FILENO, b"EOT");
         return;
     }
-    if b == leaves::FS {
-        io::write_all(STDOUT_FILENO, b"FS");
-        return;
+    let name = [separated(b), b'S'];
+    io::write_all(STDOUT_FILENO, &name);
+}
+
+// What a separator is for, by its first letter: files, groups, records, units.
+fn separated(b: u8) -> u8 {
+    match b {
+        leaves::FS => b'F',
+        leaves::GS => b'G',
+        leaves::RS => b'R',
+        _ => b'U',
     }
-    if b == leaves::GS {
-        io::write_all(STDOUT_FILENO, b"GS");
-        return;
-    }
-    if b == leaves::RS {
-        io::write_all(STDOUT_FILENO, b"RS");
-        return;
-    }
-    io::write_all(STDOUT_FILENO, b"US");
 }
