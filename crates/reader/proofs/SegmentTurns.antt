@@ -22,7 +22,6 @@ use Rattle.label.proofs.Splitting.{pieces-some, pieces-front}
 use Rattle.label.proofs.SegmentLaws.{segmentCut}
 use Rattle.leaves.specs.Seek.{seek, tallyOf}
 use Rattle.leaves.proofs.Turns.{drop-step, seek-behind, tally-behind}
-use Rattle.tallies.proofs.Agreement.{agree-on}
 use Rattle.pieces.specs.declared.Kind.the-variants.{Segments03, Segments04}
 use Rattle.bodies.proofs.PieceLaws.{leb-same}
 use Rattle.envelope.specs.declared.Found.{Found}
@@ -209,49 +208,27 @@ module _ (m : Bytes) (f at : ℕ) (least : 3 ≤ f) (most : f ≤ 4) where
   unfolding opening ruleOf
   formats-open = either (λ g. opening m g at (shapeOf (ruleOf edition2005 g)) ≡ standing ReleaseValue g at releaseLength) refl refl
 
-  release-next : at + 9 ≤ length m → nextCursor m (standing ReleaseValue f at releaseLength) ≡ plainRow m Tag f (at + 9)
+  release-next : at + 9 ≤ length m → nextCursor m (standing ReleaseValue f at releaseLength) ≡ plainRow m Tag f (at + 6 + 3)
   unfolding nextCursor following
-  release-next inside =
-      let nine : at + 6 + 3 ≡ at + 9 = omega arith in
-      ap (λ e. plainRow m Tag f (ahead m e 3)) (sym (ahead-inside m at 6 (omega arith))) ∙ ap (plainRow m Tag f) (sym (ahead-inside m (at + 6) 3 (omega arith)) ∙ nine)
+  release-next inside = ap (λ e. plainRow m Tag f (ahead m e 3)) (sym (ahead-inside m at 6 (omega arith))) ∙ ap (plainRow m Tag f) (sym (ahead-inside m (at + 6) 3 (omega arith)))
 
   -- the row of the six bytes is noted
   pub release-noted : (from rows : ℕ) (old new : List ℕ) (c : Cursor) → at + 9 ≤ length m → c ≡ standing ReleaseValue f at 6 → NotedOne from old new rows c
-      → Noted m from old rows (opening m f at (shapeOf (ruleOf edition2005 f))) → Noted m from new (rows + 1) (plainRow m Tag f (at + 9))
+      → Noted m from old rows (opening m f at (shapeOf (ruleOf edition2005 f))) → Noted m from new (rows + 1) (plainRow m Tag f (at + 6 + 3))
   release-noted from rows old new c inside row one noted =
       subst (λ (d : Cursor). Noted m from new (rows + 1) d) (ap (nextCursor m) row ∙ release-next inside) (one m (subst (λ (d : Cursor). Noted m from old rows d) (formats-open ∙ sym row) noted))
 
-  -- FS GS US behind them
-  marks-there : at + 9 ≤ length m → (not (eqb (getD m (at + 6) 0) FS) || not (eqb (getD m (at + 7) 0) GS) || not (eqb (getD m (at + 8) 0) US)) ≡ false → agreement (FS ∷ GS ∷ US ∷ []) (drop (at + 6) m) ≡ 3
-  marks-there inside are = by (eqb (getD m (at + 6) 0) FS) (eqb (getD m (at + 7) 0) GS) (eqb (getD m (at + 8) 0) US) refl refl refl are
-    where
-      text : Bytes
-      text = FS ∷ GS ∷ US ∷ []
-
-      by : (x y z : Bool) → eqb (getD m (at + 6) 0) FS ≡ x → eqb (getD m (at + 7) 0) GS ≡ y → eqb (getD m (at + 8) 0) US ≡ z → (not x || not y || not z) ≡ false → agreement text (drop (at + 6) m) ≡ 3
-      by true true true p q r are =
-          let seven : at + 6 + 1 ≡ at + 7 = omega arith in
-          let eight : at + 6 + 1 + 1 ≡ at + 8 = omega arith in
-          agree-on text m 0 (at + 6) (omega arith) (omega arith) (eqb-true _ FS p)
-          ∙ ap suc (agree-on text m 1 (at + 6 + 1) (omega arith) (omega arith) (ap (λ i. getD m i 0) seven ∙ eqb-true _ GS q))
-          ∙ ap (λ n. suc (suc n)) (agree-on text m 2 (at + 6 + 1 + 1) (omega arith) (omega arith) (ap (λ i. getD m i 0) eight ∙ eqb-true _ US r))
-      by true true false p q r are = absurd (true≢false are)
-      by true false z p q r are = absurd (true≢false are)
-      by false y z p q r are = absurd (true≢false are)
-
+  -- FS GS US stand behind them, then segments
   pub segments-swept : (from rows : ℕ) (p : Passed) (notes : List ℕ) → at + 9 ≤ length m → every capitalOrDigit (take 6 (drop at m)) ≡ true
-      → (not (eqb (getD m (at + 6) 0) FS) || not (eqb (getD m (at + 7) 0) GS) || not (eqb (getD m (at + 8) 0) US)) ≡ false
-      → BodySwept m from (segmentsKind f) (at + 9) (rows + 1) p notes → FormatSwept m from f at rows p notes
+      → agreement (FS ∷ GS ∷ US ∷ []) (drop (at + 6) m) ≡ 3 → BodySwept m from (segmentsKind f) (at + 6 + 3) (rows + 1) p notes → FormatSwept m from f at rows p notes
   segments-swept from rows p notes inside class marks body =
-      let nine : at + releaseLength + 3 ≡ at + 9 = omega arith in
       let count : 2 + (p .rows - (rows + 1)) ≡ 1 + (p .rows - rows) = omega (arith, body .more) in
       record {
         more = omega (arith, body .more);
         inside = body .inside;
         closes = λ first only.
             formats-shown (omega arith) first
-            ∙ sym (segments-body (segmentsKind f) m at (omega arith) (omega arith) class (marks-there inside marks))
-            ∙ ap (bodyFound (segmentsKind f) 2 m) nine
+            ∙ sym (segments-body (segmentsKind f) m at (omega arith) (omega arith) class marks)
             ∙ body .closes 2
             ∙ ap (Closed (p .next)) count;
         noted = body .noted;

@@ -63,8 +63,6 @@ fn sweep_later(
     requires { ⌜ SegmentsDue (now m) w f start before (now notes) (afterSubElement (now m) f start) ⌝ }
     ensures { λ r. ⌜ IfAny (r .next) (LaterSwept (now (m .entry)) (w .from) f start before r (now (notes .exit))) ⌝ }
 {
-    let most = w.most;
-    let from = w.from;
     let mut end = start;
     let mut rows = before;
     loop {
@@ -78,14 +76,14 @@ fn sweep_later(
         if (b != GS) & (b != US) {
             return given_up(rows);
         }
-        if most <= rows {
+        if w.most <= rows {
             return given_up(rows);
         }
         let at = end + 1;
         end = run_end(m, Class::Plain, at);
         note(
             notes,
-            from,
+            w.from,
             rows,
             standing_at(stage_behind(b), f, at, end - at),
         );
@@ -146,16 +144,17 @@ pub(crate) fn sweep_segments(
     requires { ⌜ ((3 ≤ f) × (f ≤ 4)) × StandsAt (now m) w at rows (now notes) (opening (now m) f at (shapeOf (ruleOf edition2005 f))) ⌝ }
     ensures { λ r. ⌜ IfAny (r .next) (FormatSwept (now (m .entry)) (w .from) f at rows r (now (notes .exit))) ⌝ }
 {
-    if m.len() - at < 10 {
+    if m.len() - at < RELEASE_LENGTH + 4 {
         return given_up(rows);
     }
     if w.most <= rows {
         return given_up(rows);
     }
-    if !leaves::all_in(Class::CapitalOrDigit, &m[at..at + RELEASE_LENGTH]) {
+    let after = at + RELEASE_LENGTH;
+    if !leaves::all_in(Class::CapitalOrDigit, &m[at..after]) {
         return given_up(rows);
     }
-    if (m[at + 6] != FS) | (m[at + 7] != GS) | (m[at + 8] != US) {
+    if tallies::agree(m, after, b"\x1C\x1D\x1F") != 3 {
         return given_up(rows);
     }
     note(
@@ -164,5 +163,5 @@ pub(crate) fn sweep_segments(
         rows,
         standing_at(Stage::ReleaseValue, f, at, RELEASE_LENGTH),
     );
-    sweep_body(m, w, f, at + 9, rows + 1, notes)
+    sweep_body(m, w, f, after + 3, rows + 1, notes)
 }

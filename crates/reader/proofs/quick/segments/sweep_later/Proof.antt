@@ -15,10 +15,10 @@ use Rattle.reader.proofs.quick.segments.sweep_later.Statement.{statemen
 use Rattle.reader.proofs.quick.segments.sweep_later.Tie as tie
 
 abbrev Inv-loop : tie.InvT-loop
-Inv-loop m f start before notes₀ most from end₀ rows₀ notes end rows = (length notes ≡ length notes₀) × Rowing m from f start before notes end rows
+Inv-loop m w f start before notes₀ end₀ rows₀ notes end rows = (length notes ≡ length notes₀) × Rowing m (w .from) f start before notes end rows
 
 abbrev μ-loop : tie.MeasureT-loop
-μ-loop m f start before notes₀ most from end₀ rows₀ notes end rows = length m - end
+μ-loop m w f start before notes₀ end₀ rows₀ notes end rows = length m - end
 
 loop-holds : tie.Need-loop-holds Inv-loop μ-loop
 loop-holds c =
@@ -29,8 +29,8 @@ loop-holds c =
 shared-slice-read-b : tie.Need-shared-slice-read-b Inv-loop μ-loop
 shared-slice-read-b c = search needs
 
-add-t16 : tie.Need-add-t16 Inv-loop μ-loop
-add-t16 c = search needs
+add-t14 : tie.Need-add-t14 Inv-loop μ-loop
+add-t14 c = search needs
 
 same-length : tie.Need-same-length Inv-loop μ-loop
 same-length c = search needs
@@ -66,10 +66,10 @@ add-at c = search needs
 run-end-requires : tie.Need-run-end-requires Inv-loop μ-loop
 unfolding plain between
 run-end-requires c κs =
-    let args = c .before .before .before .before .before .before .before .args in
-    let pre = c .before .before .before .before .before .before .before .pre in
-    let at = c .before .before .before .before .loop in
-    (pre .framed, refl, parts-more (args .m .now) (pre .framed) (args .w .from) (args .f) (args .start) (args .before) (at .notes) (at .end) (at .rows) (at .inv .1) (c .before .if2 .left))
+    let args = c .before .before .before .before .before .before .before .before .args in
+    let pre = c .before .before .before .before .before .before .before .before .pre in
+    let at = c .before .before .before .before .before .loop in
+    (pre .framed, refl, parts-more (args .m .now) (pre .framed) (args .w .from) (args .f) (args .start) (args .before) (at .notes) (at .end) (at .rows) (at .inv .1) (c .before .before .if2 .left))
 
 stage-behind-requires : tie.Need-stage-behind-requires Inv-loop μ-loop
 stage-behind-requires c κs = search needs
@@ -84,9 +84,9 @@ standing-at-requires c κs = search needs
 
 note-requires : tie.Need-note-requires Inv-loop μ-loop
 note-requires c κs =
-    let args = c .before .before .before .before .before .before .before .before .before .before .before .args in
-    let pre = c .before .before .before .before .before .before .before .before .before .before .before .pre in
-    let at = c .before .before .before .before .before .before .before .before .loop in
+    let args = c .before .before .before .before .before .before .before .before .before .before .before .before .args in
+    let pre = c .before .before .before .before .before .before .before .before .before .before .before .before .pre in
+    let at = c .before .before .before .before .before .before .before .before .before .loop in
     let end = c .before .before .before .run-end in
     subst (λ (row : Cursor). Notable (at .rows) row) (sym (c .standing-at .ensures))
     (run-notable (args .m .now) (args .f) (at .end + 1) (end .result) (end .ensures) (c .before .stage-behind .result) (at .rows) (pre .framed .short) (pre .known) (omega (arith, pre .few, c .before .before .before .before .if3 .left)))
@@ -102,13 +102,13 @@ loop-less c =
 
 loop-again : tie.Need-loop-again Inv-loop μ-loop
 loop-again c =
-    let args = c .before .before .before .before .before .before .before .before .before .before .before .before .before .before .args in
-    let pre = c .before .before .before .before .before .before .before .before .before .before .before .before .before .before .pre in
-    let at = c .before .before .before .before .before .before .before .before .before .before .before .loop in
+    let args = c .before .before .before .before .before .before .before .before .before .before .before .before .before .before .before .args in
+    let pre = c .before .before .before .before .before .before .before .before .before .before .before .before .before .before .before .pre in
+    let at = c .before .before .before .before .before .before .before .before .before .before .before .before .loop in
     let end = c .before .before .before .before .before .before .run-end in
     let noted = c .before .before .note in
     let row = c .before .before .before .standing-at in
-    (search needs, rowing-on (args .m .now) (pre .framed) (args .w .from) (args .f) (args .start) (args .before) (at .notes) (at .end) (at .rows) (at .inv .1) (end .result) (noted .last .0) (row .result) (c .before .before .before .before .before .before .before .before .if2 .left) (end .ensures) (subst (λ (s : Stage). row .result ≡ standing s (args .f) (at .end + 1) (end .result - (at .end + 1))) (c .before .before .before .before .stage-behind .ensures) (row .ensures)) (noted .ensures))
+    (search needs, rowing-on (args .m .now) (pre .framed) (args .w .from) (args .f) (args .start) (args .before) (at .notes) (at .end) (at .rows) (at .inv .1) (end .result) (noted .last .0) (row .result) (c .before .before .before .before .before .before .before .before .before .if2 .left) (end .ensures) (subst (λ (s : Stage). row .result ≡ standing s (args .f) (at .end + 1) (end .result - (at .end + 1))) (c .before .before .before .before .stage-behind .ensures) (row .ensures)) (noted .ensures))
 
 pub sweep-later-spec : {M : Type 1} → statement M
 sweep-later-spec =
@@ -118,7 +118,7 @@ sweep-later-spec =
     μ-loop
     loop-holds
     shared-slice-read-b
-    add-t16
+    add-t14
     same-length
     returns
     given-up-requires
