@@ -1,18 +1,19 @@
 -- Laws of a message that ends with EOT: a byte that is none has another behind it; and how such a frame is told.
-use Prim.Native.Nat.{ℕ, suc, _+_, _-_, _≤_, _<_}
+use Prim.Native.Nat.{ℕ, _+_, _-_, _≤_, _<_}
 use mathlib.Core.Path.{_≡_, refl, sym, ap, _∙_}
-use mathlib.Core.Bool.{Bool, true, false, _&&_, cond, true≢false}
-use mathlib.Core.List.{[], _∷_}
+use mathlib.Core.Bool.{Bool, true, false, _&&_, true≢false}
+use native.Mathlib.Nat.{zero-add}
 use native.Mathlib.Omega.{arith}
 use borrow.Author.Tests.{ltb-true, ltb-false, eqb-true}
-use lib.ListN.{length, getD}
+use lib.ListN.{length, getD, drop}
 use lib.Dec.{eqb, ltb}
-use Rattle.label.specs.Bytes.{Bytes, EOT, RS, between, digit}
+use Rattle.label.specs.Bytes.{Bytes, EOT, between, digit}
 use Rattle.label.specs.Limits.{longest}
 use Rattle.label.specs.Message.{header}
 use Rattle.label.specs.ReadMessage.{agreement}
 use Rattle.label.proofs.Tests.{both}
-use Rattle.reader.specs.Quick.{Framed, Headed}
+use Rattle.tallies.proofs.Agreement.{agree-on}
+use Rattle.reader.specs.Quick.{IfSo, Framed, Headed}
 
 module _ (m : Bytes) (framed : Framed m) (i : ℕ) (inside : i < length m) where
   pub more-behind : (getD m i 0 ≡ EOT → ⊥) → i + 1 < length m
@@ -37,23 +38,25 @@ module _ (m : Bytes) (framed : Framed m) (i : ℕ) (inside : i < length m) where
   unfolding digit between
   digit-behind is = class-behind digit refl is
 
--- the frame: the header in front, EOT at the end
-pub headed-by : (m : Bytes) → 5 ≤ length m → length m ≤ longest
-    → ((((eqb (getD m 0 0) 0x5B && eqb (getD m 1 0) 0x29) && eqb (getD m 2 0) 0x3E) && eqb (getD m 3 0) RS) && eqb (getD m (length m - 1) 0) EOT) ≡ true → Headed m
-headed-by [] long short is = absurd (omega arith)
-headed-by (a ∷ []) long short is = absurd (omega arith)
-headed-by (a ∷ (b ∷ [])) long short is = absurd (omega arith)
-headed-by (a ∷ (b ∷ (c ∷ []))) long short is = absurd (omega arith)
-headed-by (a ∷ (b ∷ (c ∷ (d ∷ rest)))) long short is =
-    let m = a ∷ (b ∷ (c ∷ (d ∷ rest))) in
-    let k = both (((eqb a 0x5B && eqb b 0x29) && eqb c 0x3E) && eqb d RS) (eqb (getD m (length m - 1) 0) EOT) is in
-    let k₃ = both ((eqb a 0x5B && eqb b 0x29) && eqb c 0x3E) (eqb d RS) (k .left) in
-    let k₂ = both (eqb a 0x5B && eqb b 0x29) (eqb c 0x3E) (k₃ .left) in
-    let k₁ = both (eqb a 0x5B) (eqb b 0x29) (k₂ .left) in
-    let whole : agreement header m ≡ 4 =
-    (λ i. cond (k₁ .left i) (suc (cond (k₁ .right i) (suc (cond (k₂ .right i) (suc (cond (k₃ .right i) (suc 0) 0)) 0)) 0)) 0) in
-    record {
-      framed = record { some = omega arith; short = short; ends = eqb-true (getD m (length m - 1) 0) EOT (k .right) };
-      begins = omega (arith, whole);
-      long = omega arith;
-    }
+-- the frame: EOT at the end, and the header in front as far as it was looked at
+pub record HeadedSoFar (m : Bytes) (i : ℕ) : Type 0 where
+  pub ends : getD m (length m - 1) 0 ≡ EOT
+  pub agrees : i + agreement (drop i header) (drop i m) ≡ agreement header m
+
+pub headed-none : (m : Bytes) → IfSo (eqb (getD m (length m - 1) 0) EOT) (HeadedSoFar m 0)
+headed-none m so = record { ends = eqb-true _ EOT so; agrees = zero-add _ }
+
+module _ (m : Bytes) (long : length header < length m) (i : ℕ) where
+  pub headed-turn : (same : Bool) → IfSo same (HeadedSoFar m i) → i < length header → IfSo (same && eqb (getD m i 0) (getD header i 0)) (HeadedSoFar m (i + 1))
+  headed-turn same before inside so =
+      let k = both same (eqb (getD m i 0) (getD header i 0)) so in
+      let h = before (k .left) in
+      let on = agree-on header m i i inside (omega arith) (eqb-true _ _ (k .right)) in
+      record { ends = h .ends; agrees = omega (arith, on, h .agrees) }
+
+  pub headed-by : length m ≤ longest → length header ≤ i → HeadedSoFar m i → Headed m
+  headed-by short past h = record {
+    framed = record { some = omega arith; short = short; ends = h .ends };
+    begins = omega (arith, h .agrees);
+    long = long;
+  }

@@ -80,11 +80,13 @@ fn framed(m: &[u8]) -> bool
     }
     let last = m.len() - 1;
     let begin = HEADER;
-    (m[0] == begin[0])
-        & (m[1] == begin[1])
-        & (m[2] == begin[2])
-        & (m[3] == begin[3])
-        & (m[last] == EOT)
+    let mut same = m[last] == EOT;
+    let mut i = 0;
+    while i < HEADER_LENGTH {
+        same = same & (m[i] == begin[i]);
+        i += 1;
+    }
+    same
 }
 
 // What is said of a message that isn't swept to its end.
