@@ -78,18 +78,16 @@ fn sweep_pieces(
     requires { ⌜ ElementsOf k f × StandsAt (now m) w start before (now notes) (plainRow (now m) Stage.Piece f start) ⌝ }
     ensures { λ r. ⌜ IfAny (r .next) (BodySwept (now (m .entry)) (w .from) k start before r (now (notes .exit))) ⌝ }
 {
-    let most = w.most;
-    let from = w.from;
     let mut at = start;
     let mut rows = before;
-    while rows < most {
+    while rows < w.most {
         let end = element_end(m, k, at);
         if end == 0 {
             return given_up(rows);
         }
         note(
             notes,
-            from,
+            w.from,
             rows,
             standing_at(Stage::Piece, f, at, end - at),
         );

@@ -91,17 +91,15 @@ fn sweep_fields(
     requires { ⌜ FieldsOf k limit × StandsAt (now m) w start before (now notes) (plainRow (now m) Stage.Piece 1 start) ⌝ }
     ensures { λ r. ⌜ IfAny (r .next) (BodySwept (now (m .entry)) (w .from) k start before r (now (notes .exit))) ⌝ }
 {
-    let most = w.most;
-    let from = w.from;
     let mut at = start;
     let mut rows = before;
-    while rows < most {
+    while rows < w.most {
         let end = field_end(m, k, rows - before, at);
         if end == 0 {
             return given_up(rows);
         }
         let size = end - at;
-        note(notes, from, rows, standing_at(Stage::Piece, 1, at, size));
+        note(notes, w.from, rows, standing_at(Stage::Piece, 1, at, size));
         rows += 1;
         let b = m[end];
         if b == RS {

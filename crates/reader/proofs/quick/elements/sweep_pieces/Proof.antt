@@ -12,10 +12,10 @@ use Rattle.reader.proofs.quick.elements.sweep_pieces.Statement.{stateme
 use Rattle.reader.proofs.quick.elements.sweep_pieces.Tie as tie
 
 abbrev Inv-loop : tie.InvT-loop
-Inv-loop m k f start before notes₀ most from at₀ rows₀ notes at rows = (length notes ≡ length notes₀) × Sweeping m from k f start before notes at rows
+Inv-loop m w k f start before notes₀ at₀ rows₀ notes at rows = (length notes ≡ length notes₀) × Sweeping m (w .from) k f start before notes at rows
 
 abbrev μ-loop : tie.MeasureT-loop
-μ-loop m k f start before notes₀ most from at₀ rows₀ notes at rows = length m - at
+μ-loop m w k f start before notes₀ at₀ rows₀ notes at rows = length m - at
 
 loop-holds : tie.Need-loop-holds Inv-loop μ-loop
 loop-holds c =
@@ -37,7 +37,7 @@ returns c = λ some. absurd (omega (arith, c .given-up .ensures))
 
 sub-standing-at : tie.Need-sub-standing-at Inv-loop μ-loop
 sub-standing-at c =
-    let to = c .before .before .element-end .ensures (omega (arith, c .before .if1 .left)) in
+    let to = c .before .before .element-end .ensures (omega (arith, c .before .if2 .left)) in
     let runs = to .runs .runs in
     search needs
 
@@ -46,26 +46,26 @@ standing-at-requires c κs = search needs
 
 note-requires : tie.Need-note-requires Inv-loop μ-loop
 note-requires c κs =
-    let args = c .before .before .before .before .before .before .before .before .args in
-    let pre = c .before .before .before .before .before .before .before .before .pre in
-    let at = c .before .before .before .before .before .loop in
+    let args = c .before .before .before .before .before .before .before .before .before .args in
+    let pre = c .before .before .before .before .before .before .before .before .before .pre in
+    let at = c .before .before .before .before .before .before .loop in
     let end = c .before .before .before .element-end in
-    let to = end .ensures (omega (arith, c .before .before .if1 .left)) in
+    let to = end .ensures (omega (arith, c .before .before .if2 .left)) in
     subst (λ (row : Cursor). Notable (at .rows) row) (sym (c .standing-at .ensures))
-    (run-notable (args .m .now) (args .f) (at .at) (end .result) (to .runs) Piece (at .rows) (pre .1 .framed .short) (elements-known (args .k) (args .f) (pre .0)) (omega (arith, pre .1 .few, c .before .before .before .before .loop-test .taken)))
+    (run-notable (args .m .now) (args .f) (at .at) (end .result) (to .runs) Piece (at .rows) (pre .1 .framed .short) (elements-known (args .k) (args .f) (pre .0)) (omega (arith, pre .1 .few, c .before .before .before .before .if1 .taken)))
 
 add-rows : tie.Need-add-rows Inv-loop μ-loop
 add-rows c = search needs
 
 shared-slice-read-b : tie.Need-shared-slice-read-b Inv-loop μ-loop
 shared-slice-read-b c =
-    let to = c .before .before .before .before .before .before .before .element-end .ensures (omega (arith, c .before .before .before .before .before .before .if1 .left)) in
+    let to = c .before .before .before .before .before .before .before .element-end .ensures (omega (arith, c .before .before .before .before .before .before .if2 .left)) in
     let inside = to .runs .inside in
     search needs
 
-add-t23 : tie.Need-add-t23 Inv-loop μ-loop
-add-t23 c =
-    let to = c .before .before .before .before .before .before .before .before .element-end .ensures (omega (arith, c .before .before .before .before .before .before .before .if1 .left)) in
+add-t21 : tie.Need-add-t21 Inv-loop μ-loop
+add-t21 c =
+    let to = c .before .before .before .before .before .before .before .before .element-end .ensures (omega (arith, c .before .before .before .before .before .before .before .if2 .left)) in
     let inside = to .runs .inside in
     search needs
 
@@ -74,14 +74,14 @@ same-length-2 c = search needs
 
 returns-2 : tie.Need-returns-2 Inv-loop μ-loop
 returns-2 c =
-    let args = c .before .before .before .before .before .before .before .before .before .before .before .before .before .args in
-    let pre = c .before .before .before .before .before .before .before .before .before .before .before .before .before .pre in
-    let at = c .before .before .before .before .before .before .before .before .before .before .loop in
+    let args = c .before .before .before .before .before .before .before .before .before .before .before .before .before .before .args in
+    let pre = c .before .before .before .before .before .before .before .before .before .before .before .before .before .before .pre in
+    let at = c .before .before .before .before .before .before .before .before .before .before .before .loop in
     let end = c .before .before .before .before .before .before .before .before .element-end in
-    let to = end .ensures (omega (arith, c .before .before .before .before .before .before .before .if1 .left)) in
+    let to = end .ensures (omega (arith, c .before .before .before .before .before .before .before .if2 .left)) in
     let noted = c .before .before .before .before .note in
     let row = c .before .before .before .before .before .standing-at in
-    λ some. sweeping-last (args .m .now) (pre .1 .framed) (args .w .from) (args .k) (args .f) (args .start) (args .before) (pre .0) (at .notes) (noted .last .0) (at .at) (at .rows) (end .result) (at .inv .1) to (row .result) (row .ensures) (noted .ensures) (c .if2 .taken)
+    λ some. sweeping-last (args .m .now) (pre .1 .framed) (args .w .from) (args .k) (args .f) (args .start) (args .before) (pre .0) (at .notes) (noted .last .0) (at .at) (at .rows) (end .result) (at .inv .1) to (row .result) (row .ensures) (noted .ensures) (c .if3 .taken)
 
 given-up-requires-2 : tie.Need-given-up-requires-2 Inv-loop μ-loop
 given-up-requires-2 c κs = search needs
@@ -94,17 +94,17 @@ returns-3 c = λ some. absurd (omega (arith, c .given-up2 .ensures))
 
 add-at : tie.Need-add-at Inv-loop μ-loop
 add-at c =
-    let to = c .before .before .before .before .before .before .before .before .before .element-end .ensures (omega (arith, c .before .before .before .before .before .before .before .before .if1 .left)) in
+    let to = c .before .before .before .before .before .before .before .before .before .element-end .ensures (omega (arith, c .before .before .before .before .before .before .before .before .if2 .left)) in
     let inside = to .runs .inside in
     search needs
 
 loop-less : tie.Need-loop-less Inv-loop μ-loop
 loop-less c =
-    let args = c .before .before .before .before .before .before .before .before .before .before .before .before .before .before .args in
-    let pre = c .before .before .before .before .before .before .before .before .before .before .before .before .before .before .pre in
-    let at = c .before .before .before .before .before .before .before .before .before .before .before .loop in
+    let args = c .before .before .before .before .before .before .before .before .before .before .before .before .before .before .before .args in
+    let pre = c .before .before .before .before .before .before .before .before .before .before .before .before .before .before .before .pre in
+    let at = c .before .before .before .before .before .before .before .before .before .before .before .before .loop in
     let end = c .before .before .before .before .before .before .before .before .before .element-end in
-    let to = end .ensures (omega (arith, c .before .before .before .before .before .before .before .before .if1 .left)) in
+    let to = end .ensures (omega (arith, c .before .before .before .before .before .before .before .before .if2 .left)) in
     let noted = c .before .before .before .before .before .note in
     let row = c .before .before .before .before .before .before .standing-at in
     let runs = to .runs .runs in
@@ -113,14 +113,14 @@ loop-less c =
 
 loop-again : tie.Need-loop-again Inv-loop μ-loop
 loop-again c =
-    let args = c .before .before .before .before .before .before .before .before .before .before .before .before .before .before .args in
-    let pre = c .before .before .before .before .before .before .before .before .before .before .before .before .before .before .pre in
-    let at = c .before .before .before .before .before .before .before .before .before .before .before .loop in
+    let args = c .before .before .before .before .before .before .before .before .before .before .before .before .before .before .before .args in
+    let pre = c .before .before .before .before .before .before .before .before .before .before .before .before .before .before .before .pre in
+    let at = c .before .before .before .before .before .before .before .before .before .before .before .before .loop in
     let end = c .before .before .before .before .before .before .before .before .before .element-end in
-    let to = end .ensures (omega (arith, c .before .before .before .before .before .before .before .before .if1 .left)) in
+    let to = end .ensures (omega (arith, c .before .before .before .before .before .before .before .before .if2 .left)) in
     let noted = c .before .before .before .before .before .note in
     let row = c .before .before .before .before .before .before .standing-at in
-    (search needs, sweeping-on (args .m .now) (pre .1 .framed) (args .w .from) (args .k) (args .f) (args .start) (args .before) (pre .0) (at .notes) (noted .last .0) (at .at) (at .rows) (end .result) (at .inv .1) to (row .result) (row .ensures) (noted .ensures) (c .if3 .left))
+    (search needs, sweeping-on (args .m .now) (pre .1 .framed) (args .w .from) (args .k) (args .f) (args .start) (args .before) (pre .0) (at .notes) (noted .last .0) (at .at) (at .rows) (end .result) (at .inv .1) to (row .result) (row .ensures) (noted .ensures) (c .if4 .left))
 
 given-up-requires-3 : tie.Need-given-up-requires-3 Inv-loop μ-loop
 given-up-requires-3 c κs = search needs
@@ -147,7 +147,7 @@ sweep-pieces-spec =
     note-requires
     add-rows
     shared-slice-read-b
-    add-t23
+    add-t21
     same-length-2
     returns-2
     given-up-requires-2

@@ -13,10 +13,10 @@ use Rattle.reader.proofs.quick.transport.sweep_fields.Statement.{statem
 use Rattle.reader.proofs.quick.transport.sweep_fields.Tie as tie
 
 abbrev Inv-loop : tie.InvT-loop
-Inv-loop m k limit start before notes₀ most from at₀ rows₀ notes at rows = (length notes ≡ length notes₀) × SweepingFields m from k limit start before notes at rows
+Inv-loop m w k limit start before notes₀ at₀ rows₀ notes at rows = (length notes ≡ length notes₀) × SweepingFields m (w .from) k limit start before notes at rows
 
 abbrev μ-loop : tie.MeasureT-loop
-μ-loop m k limit start before notes₀ most from at₀ rows₀ notes at rows = length m - at
+μ-loop m w k limit start before notes₀ at₀ rows₀ notes at rows = length m - at
 
 loop-holds : tie.Need-loop-holds Inv-loop μ-loop
 loop-holds c =
@@ -26,7 +26,7 @@ loop-holds c =
 
 sub-field-end : tie.Need-sub-field-end Inv-loop μ-loop
 sub-field-end c =
-    let more = c .before .loop .inv .1 .more in
+    let more = c .before .before .loop .inv .1 .more in
     search needs
 
 field-end-requires : tie.Need-field-end-requires Inv-loop μ-loop
@@ -43,7 +43,7 @@ returns c = λ some. absurd (omega (arith, c .given-up .ensures))
 
 sub-size : tie.Need-sub-size Inv-loop μ-loop
 sub-size c =
-    let to = c .before .field-end .ensures (omega (arith, c .if1 .left)) in
+    let to = c .before .field-end .ensures (omega (arith, c .if2 .left)) in
     let runs = to .runs .runs in
     search needs
 
@@ -52,31 +52,31 @@ standing-at-requires c κs = search needs
 
 note-requires : tie.Need-note-requires Inv-loop μ-loop
 note-requires c κs =
-    let args = c .before .before .before .before .before .before .before .before .args in
-    let pre = c .before .before .before .before .before .before .before .before .pre in
-    let at = c .before .before .before .before .before .loop in
+    let args = c .before .before .before .before .before .before .before .before .before .args in
+    let pre = c .before .before .before .before .before .before .before .before .before .pre in
+    let at = c .before .before .before .before .before .before .loop in
     let end = c .before .before .before .field-end in
-    let to = end .ensures (omega (arith, c .before .before .if1 .left)) in
+    let to = end .ensures (omega (arith, c .before .before .if2 .left)) in
     subst (λ (row : Cursor). Notable (at .rows) row) (sym (c .standing-at .ensures))
-    (run-notable (args .m .now) 1 (at .at) (end .result) (to .runs) Piece (at .rows) (pre .1 .framed .short) (omega arith) (omega (arith, pre .1 .few, c .before .before .before .before .loop-test .taken)))
+    (run-notable (args .m .now) 1 (at .at) (end .result) (to .runs) Piece (at .rows) (pre .1 .framed .short) (omega arith) (omega (arith, pre .1 .few, c .before .before .before .before .if1 .taken)))
 
 add-rows : tie.Need-add-rows Inv-loop μ-loop
 add-rows c = search needs
 
 shared-slice-read-b : tie.Need-shared-slice-read-b Inv-loop μ-loop
 shared-slice-read-b c =
-    let to = c .before .before .before .before .before .before .before .field-end .ensures (omega (arith, c .before .before .before .before .before .before .if1 .left)) in
+    let to = c .before .before .before .before .before .before .before .field-end .ensures (omega (arith, c .before .before .before .before .before .before .if2 .left)) in
     let inside = to .runs .inside in
     search needs
 
 sub-behind-last : tie.Need-sub-behind-last Inv-loop μ-loop
 sub-behind-last c =
-    let more = c .before .before .before .before .before .before .before .before .before .before .loop .inv .1 .more in
+    let more = c .before .before .before .before .before .before .before .before .before .before .before .loop .inv .1 .more in
     search needs
 
 add-behind-last : tie.Need-add-behind-last Inv-loop μ-loop
 add-behind-last c =
-    let to = c .before .before .before .before .before .before .before .before .field-end .ensures (omega (arith, c .before .before .before .before .before .before .before .if1 .left)) in
+    let to = c .before .before .before .before .before .before .before .before .field-end .ensures (omega (arith, c .before .before .before .before .before .before .before .if2 .left)) in
     let inside = to .runs .inside in
     search needs
 
@@ -88,16 +88,16 @@ same-length-2 c = search needs
 
 returns-2 : tie.Need-returns-2 Inv-loop μ-loop
 returns-2 c =
-    let args = c .before .before .before .before .before .before .before .before .before .before .before .before .before .before .args in
-    let pre = c .before .before .before .before .before .before .before .before .before .before .before .before .before .before .pre in
-    let at = c .before .before .before .before .before .before .before .before .before .before .before .loop in
+    let args = c .before .before .before .before .before .before .before .before .before .before .before .before .before .before .before .args in
+    let pre = c .before .before .before .before .before .before .before .before .before .before .before .before .before .before .before .pre in
+    let at = c .before .before .before .before .before .before .before .before .before .before .before .before .loop in
     let end = c .before .before .before .before .before .before .before .before .before .field-end in
-    let to = end .ensures (omega (arith, c .before .before .before .before .before .before .before .before .if1 .left)) in
+    let to = end .ensures (omega (arith, c .before .before .before .before .before .before .before .before .if2 .left)) in
     let noted = c .before .before .before .before .before .note in
     let row = c .before .before .before .before .before .before .standing-at in
     λ some.
     let right = c .behind-last .ensures some in
-    fields-last (args .m .now) (pre .1 .framed) (args .w .from) (args .k) (args .limit) (args .start) (args .before) (at .notes) (noted .last .0) (at .at) (at .rows) (end .result) (at .inv .1) to (row .result) (row .ensures) (noted .ensures) (c .before .if2 .taken) (c .behind-last .result) (right .0) (right .1)
+    fields-last (args .m .now) (pre .1 .framed) (args .w .from) (args .k) (args .limit) (args .start) (args .before) (at .notes) (noted .last .0) (at .at) (at .rows) (end .result) (at .inv .1) to (row .result) (row .ensures) (noted .ensures) (c .before .if3 .taken) (c .behind-last .result) (right .0) (right .1)
 
 given-up-requires-2 : tie.Need-given-up-requires-2 Inv-loop μ-loop
 given-up-requires-2 c κs = search needs
@@ -110,27 +110,27 @@ returns-3 c = λ some. absurd (omega (arith, c .given-up2 .ensures))
 
 add-at : tie.Need-add-at Inv-loop μ-loop
 add-at c =
-    let to = c .before .before .before .before .before .before .before .before .before .field-end .ensures (omega (arith, c .before .before .before .before .before .before .before .before .if1 .left)) in
+    let to = c .before .before .before .before .before .before .before .before .before .field-end .ensures (omega (arith, c .before .before .before .before .before .before .before .before .if2 .left)) in
     let inside = to .runs .inside in
     search needs
 
 loop-less : tie.Need-loop-less Inv-loop μ-loop
 loop-less c =
-    let to = c .before .before .before .before .before .before .before .before .before .field-end .ensures (omega (arith, c .before .before .before .before .before .before .before .before .if1 .left)) in
+    let to = c .before .before .before .before .before .before .before .before .before .field-end .ensures (omega (arith, c .before .before .before .before .before .before .before .before .if2 .left)) in
     let runs = to .runs .runs in
     let inside = to .runs .inside in
     search needs
 
 loop-again : tie.Need-loop-again Inv-loop μ-loop
 loop-again c =
-    let args = c .before .before .before .before .before .before .before .before .before .before .before .before .before .before .args in
-    let pre = c .before .before .before .before .before .before .before .before .before .before .before .before .before .before .pre in
-    let at = c .before .before .before .before .before .before .before .before .before .before .before .loop in
+    let args = c .before .before .before .before .before .before .before .before .before .before .before .before .before .before .before .args in
+    let pre = c .before .before .before .before .before .before .before .before .before .before .before .before .before .before .before .pre in
+    let at = c .before .before .before .before .before .before .before .before .before .before .before .before .loop in
     let end = c .before .before .before .before .before .before .before .before .before .field-end in
-    let to = end .ensures (omega (arith, c .before .before .before .before .before .before .before .before .if1 .left)) in
+    let to = end .ensures (omega (arith, c .before .before .before .before .before .before .before .before .if2 .left)) in
     let noted = c .before .before .before .before .before .note in
     let row = c .before .before .before .before .before .before .standing-at in
-    (search needs, fields-on (args .m .now) (pre .1 .framed) (args .w .from) (args .k) (args .limit) (args .start) (args .before) (at .notes) (noted .last .0) (at .at) (at .rows) (end .result) (at .inv .1) to (row .result) (row .ensures) (noted .ensures) (c .if3 .left))
+    (search needs, fields-on (args .m .now) (pre .1 .framed) (args .w .from) (args .k) (args .limit) (args .start) (args .before) (at .notes) (noted .last .0) (at .at) (at .rows) (end .result) (at .inv .1) to (row .result) (row .ensures) (noted .ensures) (c .if4 .left))
 
 given-up-requires-3 : tie.Need-given-up-requires-3 Inv-loop μ-loop
 given-up-requires-3 c κs = search needs
