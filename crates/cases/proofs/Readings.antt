@@ -1,5 +1,6 @@
 -- The places of document 01 that can be read in two ways, and messages with several faults at once, whose order decides: what the reading definition
--- makes of each (docs/DECISIONS.md, the readings). By computation. H is `[)>` RS.
+-- makes of each (docs/DECISIONS.md, the readings). A faulty field or element has its number and place by document 02, No. 1, whose own readings are in
+-- Faults. By computation. H is `[)>` RS.
 use Prim.Native.Nat.{ℕ}
 use mathlib.Core.Path.{_≡_, refl}
 use mathlib.Core.List.{List, [], _∷_, _++_, map}
@@ -118,17 +119,17 @@ version56 = record { input = ascii "[)>\u{1e}01\u{1d}5652001\u{1d}840\u{1d}001\u
 abbrev noPostalCode02 : Case
 noPostalCode02 = record { input = ascii "[)>\u{1e}01\u{1d}02\u{1d}840\u{1d}001\u{1d}1Z\u{1d}UP\u{1e}\u{4}"; lines = (0 ∷ 1 ∷ 7 ∷ []) ∷ (1 ∷ 1 ∷ 4 ∷ 2 ∷ []) ∷ (2 ∷ 1 ∷ 7 ∷ 2 ∷ []) ∷ (3 ∷ 1 ∷ 9 ∷ 0 ∷ []) ∷ (3 ∷ 1 ∷ 10 ∷ 3 ∷ []) ∷ (3 ∷ 1 ∷ 14 ∷ 3 ∷ []) ∷ (3 ∷ 1 ∷ 18 ∷ 2 ∷ []) ∷ (3 ∷ 1 ∷ 21 ∷ 2 ∷ []) ∷ [] }
 
--- version 96 with an empty postal code
+-- version 96 with an empty postal code: 31 at it
 abbrev noPostalCode96 : Case
-noPostalCode96 = record { input = ascii "[)>\u{1e}01\u{1d}96\u{1d}840\u{1d}001\u{1d}1Z\u{1d}UP\u{1e}\u{4}"; lines = (11 ∷ 4 ∷ []) ∷ [] }
+noPostalCode96 = record { input = ascii "[)>\u{1e}01\u{1d}96\u{1d}840\u{1d}001\u{1d}1Z\u{1d}UP\u{1e}\u{4}"; lines = (31 ∷ 9 ∷ []) ∷ [] }
 
--- four fields
+-- four fields: 30 at the first
 abbrev fourFields : Case
-fourFields = record { input = ascii "[)>\u{1e}01\u{1d}02\u{1d}840\u{1d}001\u{1d}1Z\u{1e}\u{4}"; lines = (11 ∷ 4 ∷ []) ∷ [] }
+fourFields = record { input = ascii "[)>\u{1e}01\u{1d}02\u{1d}840\u{1d}001\u{1d}1Z\u{1e}\u{4}"; lines = (30 ∷ 9 ∷ []) ∷ [] }
 
--- an empty sixth field that is the last
+-- an empty sixth field that is the last: 30 at it
 abbrev emptyLastField : Case
-emptyLastField = record { input = ascii "[)>\u{1e}01\u{1d}02\u{1d}840\u{1d}001\u{1d}1Z\u{1d}UP\u{1d}\u{1e}\u{4}"; lines = (11 ∷ 4 ∷ []) ∷ [] }
+emptyLastField = record { input = ascii "[)>\u{1e}01\u{1d}02\u{1d}840\u{1d}001\u{1d}1Z\u{1d}UP\u{1d}\u{1e}\u{4}"; lines = (30 ∷ 24 ∷ []) ∷ [] }
 
 -- fields 6 to 8 empty, field 9 `1/1`
 abbrev emptyLaterFields : Case
@@ -138,15 +139,15 @@ emptyLaterFields = record { input = ascii "[)>\u{1e}01\u{1d}02\u{1d}840\u{1d}001
 abbrev name02 : Case
 name02 = record { input = ascii "[)>\u{1e}01\u{1d}02\u{1d}840\u{1d}1\u{1d}1\u{1d}UP\u{1d}\u{1d}\u{1d}\u{1d}\u{1d}\u{1d}\u{1d}\u{1d}\u{1d}\u{1d}A\u{1e}\u{4}"; lines = (0 ∷ 1 ∷ 17 ∷ []) ∷ (1 ∷ 1 ∷ 4 ∷ 2 ∷ []) ∷ (2 ∷ 1 ∷ 7 ∷ 2 ∷ []) ∷ (3 ∷ 1 ∷ 9 ∷ 0 ∷ []) ∷ (3 ∷ 1 ∷ 10 ∷ 3 ∷ []) ∷ (3 ∷ 1 ∷ 14 ∷ 1 ∷ []) ∷ (3 ∷ 1 ∷ 16 ∷ 1 ∷ []) ∷ (3 ∷ 1 ∷ 18 ∷ 2 ∷ []) ∷ (3 ∷ 1 ∷ 21 ∷ 0 ∷ []) ∷ (3 ∷ 1 ∷ 22 ∷ 0 ∷ []) ∷ (3 ∷ 1 ∷ 23 ∷ 0 ∷ []) ∷ (3 ∷ 1 ∷ 24 ∷ 0 ∷ []) ∷ (3 ∷ 1 ∷ 25 ∷ 0 ∷ []) ∷ (3 ∷ 1 ∷ 26 ∷ 0 ∷ []) ∷ (3 ∷ 1 ∷ 27 ∷ 0 ∷ []) ∷ (3 ∷ 1 ∷ 28 ∷ 0 ∷ []) ∷ (3 ∷ 1 ∷ 29 ∷ 0 ∷ []) ∷ (3 ∷ 1 ∷ 30 ∷ 1 ∷ []) ∷ [] }
 
--- version 96 with fifteen fields
+-- version 96 with fifteen fields: 30 at the first
 abbrev name96 : Case
-name96 = record { input = ascii "[)>\u{1e}01\u{1d}96ABC\u{1d}840\u{1d}1\u{1d}1\u{1d}UP\u{1d}\u{1d}\u{1d}\u{1d}\u{1d}\u{1d}\u{1d}\u{1d}\u{1d}\u{1d}A\u{1e}\u{4}"; lines = (11 ∷ 4 ∷ []) ∷ [] }
+name96 = record { input = ascii "[)>\u{1e}01\u{1d}96ABC\u{1d}840\u{1d}1\u{1d}1\u{1d}UP\u{1d}\u{1d}\u{1d}\u{1d}\u{1d}\u{1d}\u{1d}\u{1d}\u{1d}\u{1d}A\u{1e}\u{4}"; lines = (30 ∷ 9 ∷ []) ∷ [] }
 
--- Reading 10: empty bodies
+-- Reading 10: empty bodies; in 01, 05 and 06 the place is that of the one empty piece
 
--- format 01
+-- format 01: one field
 abbrev emptyFields : Case
-emptyFields = record { input = ascii "[)>\u{1e}01\u{1d}02\u{1e}\u{4}"; lines = (11 ∷ 4 ∷ []) ∷ [] }
+emptyFields = record { input = ascii "[)>\u{1e}01\u{1d}02\u{1e}\u{4}"; lines = (30 ∷ 9 ∷ []) ∷ [] }
 
 -- format 03
 abbrev emptySegments03 : Case
@@ -158,11 +159,11 @@ emptySegments = record { input = ascii "[)>\u{1e}04004010\u{1c}\u{1d}\u{1f}\u{1e
 
 -- format 05
 abbrev emptyElements05 : Case
-emptyElements05 = record { input = ascii "[)>\u{1e}05\u{1d}\u{1e}\u{4}"; lines = (11 ∷ 4 ∷ []) ∷ [] }
+emptyElements05 = record { input = ascii "[)>\u{1e}05\u{1d}\u{1e}\u{4}"; lines = (11 ∷ 7 ∷ []) ∷ [] }
 
 -- format 06
 abbrev emptyElements : Case
-emptyElements = record { input = ascii "[)>\u{1e}06\u{1d}\u{1e}\u{4}"; lines = (11 ∷ 4 ∷ []) ∷ [] }
+emptyElements = record { input = ascii "[)>\u{1e}06\u{1d}\u{1e}\u{4}"; lines = (11 ∷ 7 ∷ []) ∷ [] }
 
 -- format 09 with count zero
 abbrev emptyPayload : Case
@@ -198,11 +199,11 @@ nearlyBinary = record { input = ascii "[)>\u{1e}03004010\u{1c}\u{1d}\u{1f}BIM\u{
 abbrev halfBinary : Case
 halfBinary = record { input = ascii "[)>\u{1e}03004010\u{1c}\u{1d}\u{1f}BI\u{1c}\u{1e}\u{4}"; lines = (0 ∷ 1 ∷ 3 ∷ []) ∷ (1 ∷ 3 ∷ 4 ∷ 2 ∷ []) ∷ (2 ∷ 3 ∷ 6 ∷ 6 ∷ []) ∷ (4 ∷ 3 ∷ 15 ∷ 2 ∷ []) ∷ [] }
 
--- Reading 12 and 13: permitted bytes go by the format; a bad byte in a header is 8; 12, then 10, then 11
+-- Reading 12 and 13: permitted bytes go by the format; a bad byte in a header is 8; 12, then 10, then 11, or in 01 30 to 33
 
--- a letter in the country
+-- a letter in the country: 33 at it
 abbrev letterInCountry : Case
-letterInCountry = record { input = ascii "[)>\u{1e}01\u{1d}02\u{1d}84A\u{1d}001\u{1d}1Z\u{1d}UP\u{1e}\u{4}"; lines = (11 ∷ 4 ∷ []) ∷ [] }
+letterInCountry = record { input = ascii "[)>\u{1e}01\u{1d}02\u{1d}84A\u{1d}001\u{1d}1Z\u{1d}UP\u{1e}\u{4}"; lines = (33 ∷ 10 ∷ []) ∷ [] }
 
 -- 7F in the country
 abbrev deleteInCountry : Case
@@ -294,9 +295,13 @@ abbrev concatenated : List Bytes → Bytes
 concatenated [] = []
 concatenated (bs ∷ rest) = bs ++ concatenated rest
 
--- H `06`, then n elements, RS and what follows
+-- `06`, then n elements, RS and what follows
+abbrev elementsAnd : ℕ → Bytes → Bytes
+elementsAnd n after = ascii "06" ++ (concatenated (replicate n (ascii "\u{1d}Q3")) ++ (ascii "\u{1e}" ++ after))
+
+-- the same behind H
 abbrev pub manyElements : ℕ → Bytes → Bytes
-manyElements n after = ascii "[)>\u{1e}06" ++ (concatenated (replicate n (ascii "\u{1d}Q3")) ++ (ascii "\u{1e}" ++ after))
+manyElements n after = ascii "[)>\u{1e}" ++ elementsAnd n after
 
 -- H `07`, then n bytes of text, RS EOT: n + 8 bytes
 abbrev pub longText : ℕ → Bytes
@@ -305,6 +310,10 @@ longText n = ascii "[)>\u{1e}07" ++ (replicate n 0x41 ++ ascii "\u{1e}\u{4}")
 -- 1,025 rows, and then another fault
 abbrev tooManyAnd : Bytes → ℕ → ℕ → Case
 tooManyAnd after reason place = record { input = manyElements 1024 after; lines = (reason ∷ place ∷ []) ∷ [] }
+
+-- H `01` GS `02`, fields and RS, and then 1,025 rows: a faulty field comes before 13 too
+abbrev tooManyBehind : Bytes → ℕ → ℕ → Case
+tooManyBehind body reason place = record { input = ascii "[)>\u{1e}01\u{1d}02" ++ (body ++ (ascii "\u{1e}" ++ elementsAnd 1024 (ascii "\u{4}"))); lines = (reason ∷ place ∷ []) ∷ [] }
 
 abbrev pub limitCases : List Case
 limitCases =
@@ -319,8 +328,14 @@ limitCases =
     ∷ tooManyAnd (ascii "06\u{1e}\u{4}") 8 3079
     ∷ tooManyAnd (ascii "09\u{1d}A\u{1d}\u{1d}2\u{1d}\u{1e}\u{4}") 9 3079
     ∷ tooManyAnd (ascii "07\u{4}\u{1e}\u{4}") 10 3079
-    ∷ tooManyAnd (ascii "06\u{1d}\u{1e}\u{4}") 11 3079
+    ∷ tooManyAnd (ascii "06\u{1d}\u{1e}\u{4}") 11 3082
     ∷ tooManyAnd (ascii "07") 12 3079
+    -- good fields; four; a country too short, too long and with a letter
+    ∷ tooManyBehind (ascii "\u{1d}840\u{1d}1\u{1d}1Z\u{1d}UP") 13 0
+    ∷ tooManyBehind (ascii "\u{1d}840\u{1d}1\u{1d}1Z") 30 9
+    ∷ tooManyBehind (ascii "\u{1d}84\u{1d}1\u{1d}1Z\u{1d}UP") 31 10
+    ∷ tooManyBehind (ascii "\u{1d}8400\u{1d}1\u{1d}1Z\u{1d}UP") 32 10
+    ∷ tooManyBehind (ascii "\u{1d}84A\u{1d}1\u{1d}1Z\u{1d}UP") 33 10
     ∷ []
 
 pub the-limits : Stand limitCases

@@ -1,5 +1,5 @@
--- The thirteen cases of 01's table 'Proved', as one statement about the reading definition; and for those that are accepted, that the writing side
--- has them too. All by computation. H is `[)>` RS.
+-- The thirteen cases of 01's table 'Proved', one of them as document 02, No. 1 has it, as one statement about the reading definition; and for those that
+-- are accepted, that the writing side has them too. All by computation. H is `[)>` RS.
 use Prim.Native.Nat.{ℕ}
 use mathlib.Core.Path.{_≡_, refl}
 use mathlib.Core.List.{List, [], _∷_, _++_, map, tail}
@@ -53,9 +53,9 @@ payload = record { input = ascii "[)>\u{1e}09\u{1d}A\u{1d}\u{1d}3\u{1d}\u{1e}\u{
 abbrev pub shortCount : Case
 shortCount = record { input = ascii "[)>\u{1e}09\u{1d}A\u{1d}\u{1d}2\u{1d}\u{1e}\u{4}\u{1d}\u{1e}\u{4}"; lines = (9 ∷ 4 ∷ []) ∷ [] }
 
--- H `06` GS `Q3` GS RS EOT
+-- H `06` GS `Q3` GS RS EOT: the place is the empty element's start (document 02, No. 1), where 01's table has the indicator, 4
 abbrev pub emptyElement : Case
-emptyElement = record { input = ascii "[)>\u{1e}06\u{1d}Q3\u{1d}\u{1e}\u{4}"; lines = (11 ∷ 4 ∷ []) ∷ [] }
+emptyElement = record { input = ascii "[)>\u{1e}06\u{1d}Q3\u{1d}\u{1e}\u{4}"; lines = (11 ∷ 10 ∷ []) ∷ [] }
 
 -- H `03004010` FS GS US `N1` GS `A` US `B` FS RS EOT
 abbrev pub oneSegment : Case

@@ -11,19 +11,21 @@ use lib.Seq.{take-append-seam, drop-append-add, getD-append-seam, take-at, drop-
 use lib.Dec.{leb, eqb}
 use Rattle.label.specs.declared.Reason.{Reason}
 use Rattle.label.specs.declared.Reason.the-variants.{BadFormatHeader}
+use Rattle.label.specs.declared.BodyFault.{BodyFault}
 use Rattle.label.specs.Bytes.{Bytes, EOT, FS, GS, RS, US, control, plain, digit, below80, every, isEmpty}
 use Rattle.label.specs.Limits.{longAs, _to_}
 use Rattle.label.specs.Pieces.{pieces, lastIsEmpty}
 use Rattle.label.specs.Values.{Version, version02, version96, versionDigits, releaseLength, release, payloadType, compression, count}
 use Rattle.label.specs.Segments.{Segment, tagged}
 use Rattle.label.specs.Fields.{transport}
+use Rattle.label.specs.Faults.{fieldsFault, elementsFault, wholeFault}
 use Rattle.label.specs.Formats.{Edition, edition2005, textByte, Format, formats, ruleIn, Rule, ruleOf, asFields, asRest, asSegments, asElements, asText, asCounted, unknown}
 use Rattle.label.specs.Layout.{bytesOf}
 use Rattle.label.specs.Envelope.{Envelope, fields, wholeRest, segments, elements, text, counted, Within}
 use Rattle.label.specs.Written.{twoDigits, parts}
 use Rattle.label.specs.Message.{isTransport, isRest, Each}
-use Rattle.label.specs.ReadEnvelope.{Step, closed, whole, must, opened, valuedAt, valued, bodyAt, bodied, plainOrGS, versionOf, readFields, readTransport, readRest, segmentByte, segmentsIn, areSegments, readSegments, readElements, readText, readPayload, readCounted, readBy, readEnvelope}
-use Rattle.label.proofs.Tests.{both, and-both, or-left, or-right, or-not, free, free-of, Without, without-or, without-one, plain-without, digit-without, not-true, not-false, every-implies}
+use Rattle.label.specs.ReadEnvelope.{Step, closed, whole, must, opened, valuedAt, valued, broken, bodyAt, bodied, plainOrGS, versionOf, readFields, readTransport, readRest, segmentByte, segmentsIn, areSegments, readSegments, readElements, readText, readPayload, readCounted, readBy, readEnvelope}
+use Rattle.label.proofs.Tests.{both, and-both, cond-yes, cond-no, or-left, or-right, or-not, free, free-of, Without, without-or, without-one, plain-without, digit-without, not-true, not-false, every-implies}
 use Rattle.label.proofs.Splitting.{joined, pieces-of-joined, last-of-terminated, cut-front, every-joined}
 use Rattle.label.proofs.Laid.{segmentBytes, contentBytes, formatOf, bytes-envelope}
 use Rattle.label.proofs.SegmentLaws.{bodyOf, body-bytes, body-pieces, segments-again}
@@ -31,19 +33,23 @@ use Rattle.label.proofs.Digits.{two-digits, known-small}
 
 -- Steps of a reading
 
-must-pass : (t : Bool) (r : Reason) (s : Step) → t ≡ true → must t r s ≡ s
+pub must-pass : (t : Bool) (r : Reason) (s : Step) → t ≡ true → must t r s ≡ s
 must-pass t r s h = ap (λ x. must x r s) h
 
 valued-pass : (test : Bytes → Bool) (v rest : Bytes) (next : Bytes → Bytes → Step) → free GS v ≡ true → test v ≡ true → valued test (v ++ (GS ∷ rest)) next ≡ next v rest
 valued-pass test v rest next none-inside passes = ap (valuedAt test next) (cut-front GS v rest none-inside) ∙ must-pass (test v) _ _ passes
 
-bodied-pass : (permitted : ℕ → Bool) (rules : Bytes → Bool) (made : Bytes → Envelope) (body left : Bytes)
-    → Without RS permitted → every permitted body ≡ true → rules body ≡ true → bodied permitted rules made (body ++ (RS ∷ left)) ≡ closed (made body) left
+-- a body whose bytes are permitted, by whether its rules hold
+bodied-by : (permitted : ℕ → Bool) (rules : Bytes → Bool) (fault : Bytes → BodyFault) (made : Bytes → Envelope) (body left : Bytes) → Without RS permitted → every permitted body ≡ true
+    → bodied permitted rules fault made (body ++ (RS ∷ left)) ≡ cond (rules body) (closed (made body) left) (broken (body ++ (RS ∷ left)) (fault body))
 unfolding bodied
-bodied-pass permitted rules made body left without p r =
-    ap (bodyAt permitted rules made) (cut-front RS body left (free-of RS permitted without body p))
+bodied-by permitted rules fault made body left without p =
+    ap (bodyAt permitted rules (λ b. broken (body ++ (RS ∷ left)) (fault b)) made) (cut-front RS body left (free-of RS permitted without body p))
     ∙ must-pass (every permitted body) _ _ p
-    ∙ must-pass (rules body) _ _ r
+
+bodied-pass : (permitted : ℕ → Bool) (rules : Bytes → Bool) (fault : Bytes → BodyFault) (made : Bytes → Envelope) (body left : Bytes)
+    → Without RS permitted → every permitted body ≡ true → rules body ≡ true → bodied permitted rules fault made (body ++ (RS ∷ left)) ≡ closed (made body) left
+bodied-pass permitted rules fault made body left without p r = bodied-by permitted rules fault made body left without p ∙ cond-yes (rules body) _ _ r
 
 -- RS is permitted in no body that runs to RS
 
@@ -104,7 +110,7 @@ text-without edition f permitted known = subst Sound known (sound-in f (formats 
 
 text-pass : (edition : Edition) (f : ℕ) (body left : Bytes) (w : Within edition (text f body)) → readText (w .permitted) f (body ++ (RS ∷ left)) ≡ closed (text f body) left
 unfolding readText
-text-pass edition f body left w = bodied-pass (w .permitted) (λ b. true) (text f) body left (text-without edition f (w .permitted) (w .known)) (w .permittedBytes) refl
+text-pass edition f body left w = bodied-pass (w .permitted) (λ b. true) wholeFault (text f) body left (text-without edition f (w .permitted) (w .known)) (w .permittedBytes) refl
 
 rest-pass : (edition : Edition) (f : ℕ) (body : Bytes) (w : Within edition (wholeRest f body)) → readRest (w .permitted) f body ≡ whole (wholeRest f body)
 unfolding readRest
@@ -118,16 +124,23 @@ free-pieces : (c : ℕ) → c < 0x20 → (ps : List Bytes) → every (every plai
 free-pieces c before ps h = every-implies (every plain) (free c) (free-of c plain (plain-without c before)) ps h
 
 -- a body of pieces between GS, for any rule of the pieces
-pieces-pass : (rules : List Bytes → Bool) (made : List Bytes → Envelope) (ps : List Bytes) (left : Bytes) → isEmpty ps ≡ false → every (every plain) ps ≡ true → rules ps ≡ true
-    → bodied plainOrGS (λ body. rules (pieces GS body)) (λ body. made (pieces GS body)) (joined GS ps ++ (RS ∷ left)) ≡ closed (made ps) left
-pieces-pass rules made ps left one p r =
-    let back = pieces-of-joined GS ps one (free-pieces GS (omega arith) ps p) in
-    bodied-pass plainOrGS (λ body. rules (pieces GS body)) (λ body. made (pieces GS body)) (joined GS ps) left plain-or-gs-without (plain-joined ps p) (ap rules back ∙ r)
-    ∙ ap (λ x. closed (made x) left) back
+module _ (rules : List Bytes → Bool) (fault : Bytes → BodyFault) (made : List Bytes → Envelope) (ps : List Bytes) (left : Bytes) (one : isEmpty ps ≡ false) (p : every (every plain) ps ≡ true) where
+  pub pieces-back : pieces GS (joined GS ps) ≡ ps
+  pieces-back = pieces-of-joined GS ps one (free-pieces GS (omega arith) ps p)
+
+  pieces-pass : rules ps ≡ true → bodied plainOrGS (λ body. rules (pieces GS body)) fault (λ body. made (pieces GS body)) (joined GS ps ++ (RS ∷ left)) ≡ closed (made ps) left
+  pieces-pass r =
+      bodied-pass plainOrGS (λ body. rules (pieces GS body)) fault (λ body. made (pieces GS body)) (joined GS ps) left plain-or-gs-without (plain-joined ps p) (ap rules pieces-back ∙ r)
+      ∙ ap (λ x. closed (made x) left) pieces-back
+
+  pub pieces-broken : rules ps ≡ false → bodied plainOrGS (λ body. rules (pieces GS body)) fault (λ body. made (pieces GS body)) (joined GS ps ++ (RS ∷ left)) ≡ broken (joined GS ps ++ (RS ∷ left)) (fault (joined GS ps))
+  pieces-broken r =
+      bodied-by plainOrGS (λ body. rules (pieces GS body)) fault (λ body. made (pieces GS body)) (joined GS ps) left plain-or-gs-without (plain-joined ps p)
+      ∙ cond-no (rules (pieces GS (joined GS ps))) _ _ (ap rules pieces-back ∙ r)
 
 elements-pass : (edition : Edition) (f : ℕ) (es : List Bytes) (left : Bytes) (w : Within edition (elements f es)) → readElements (w .isElement) f (GS ∷ (joined GS es ++ (RS ∷ left))) ≡ closed (elements f es) left
 unfolding readElements
-elements-pass edition f es left w = pieces-pass (every (w .isElement)) (elements f) es left (w .oneOrMore) (w .plainBytes) (w .asStated)
+elements-pass edition f es left w = pieces-pass (every (w .isElement)) (elementsFault (w .isElement)) (elements f) es left (w .oneOrMore) (w .plainBytes) (w .asStated)
 
 fields-some : (v : Version) (fs : List Bytes) → transport v fs ≡ true → isEmpty fs ≡ false
 unfolding transport
@@ -143,11 +156,16 @@ behind-version : (v : Version) (rest : Bytes) → drop 2 (versionDigits v ++ res
 behind-version version02 rest = refl
 behind-version version96 rest = refl
 
+-- behind the header, the fields
+pub fields-read : (f : ℕ) (v : Version) (rest : Bytes) → readTransport f (GS ∷ (versionDigits v ++ rest)) ≡ readFields f (some v) rest
+unfolding readTransport
+fields-read f v rest = λ i. readFields f (version-pass v rest i) (behind-version v rest i)
+
 transport-pass : (edition : Edition) (f : ℕ) (v : Version) (fs : List Bytes) (left : Bytes) → Within edition (fields f v fs) → readTransport f (GS ∷ (versionDigits v ++ (joined GS fs ++ (RS ∷ left)))) ≡ closed (fields f v fs) left
-unfolding readTransport readFields
+unfolding readFields
 transport-pass edition f v fs left w =
-    (λ i. readFields f (version-pass v (joined GS fs ++ (RS ∷ left)) i) (behind-version v (joined GS fs ++ (RS ∷ left)) i))
-    ∙ pieces-pass (transport v) (fields f v) fs left (fields-some v fs (w .asStated)) (w .plainBytes) (w .asStated)
+    fields-read f v (joined GS fs ++ (RS ∷ left))
+    ∙ pieces-pass (transport v) (fieldsFault v) (fields f v) fs left (fields-some v fs (w .asStated)) (w .plainBytes) (w .asStated)
 
 six-long : (header : Bytes) → release header ≡ true → length header ≡ releaseLength
 unfolding release longAs
@@ -161,7 +179,7 @@ six-long header h =
 abbrev read-six : (Bytes → Bool) → ℕ → Bytes → Bytes → Step
 read-six isTag f header after =
     must (release header) BadFormatHeader
-    (opened (FS ∷ GS ∷ US ∷ []) after λ rest. bodied segmentByte (areSegments isTag) (λ body. segments f header (segmentsIn body)) rest)
+    (opened (FS ∷ GS ∷ US ∷ []) after λ rest. bodied segmentByte (areSegments isTag) wholeFault (λ body. segments f header (segmentsIn body)) rest)
 
 segments-pass : (edition : Edition) (f : ℕ) (header : Bytes) (ss : List Segment) (left : Bytes) (w : Within edition (segments f header ss))
     → readSegments (w .isTag) f (header ++ (FS ∷ (GS ∷ (US ∷ (bodyOf ss ++ (RS ∷ left)))))) ≡ closed (segments f header ss) left
@@ -173,7 +191,7 @@ segments-pass edition f header ss left w =
     let ends : lastIsEmpty (pieces FS (bodyOf ss)) ≡ true = ap lastIsEmpty (body-pieces ss (w .plainBytes)) ∙ last-of-terminated (map segmentBytes ss) in
     (λ i. read-six (w .isTag) f (take-at header tail releaseLength six i) (drop-at header tail releaseLength six i))
     ∙ must-pass (release header) _ _ (w .sixBytes)
-    ∙ bodied-pass segmentByte (areSegments (w .isTag)) (λ body. segments f header (segmentsIn body)) (bodyOf ss) left segment-byte-without (body-bytes ss (w .plainBytes))
+    ∙ bodied-pass segmentByte (areSegments (w .isTag)) wholeFault (λ body. segments f header (segmentsIn body)) (bodyOf ss) left segment-byte-without (body-bytes ss (w .plainBytes))
     (and-both (and-both ends (ap (λ x. not (isEmpty x)) again ∙ not-false (w .oneOrMore))) (ap (every (tagged (w .isTag))) again ∙ w .allTagged))
     ∙ ap (λ x. closed (segments f header x) left) again
 
@@ -206,7 +224,7 @@ isKnown (asText permitted) = true
 isKnown asCounted = true
 isKnown unknown = false
 
-indicator-pass : (edition : Edition) (first : Bool) (f : ℕ) (rule : Rule) (bs : Bytes) → ruleOf edition f ≡ rule → isKnown rule ≡ true → readEnvelope edition first (twoDigits f ++ bs) ≡ readBy rule first f bs
+pub indicator-pass : (edition : Edition) (first : Bool) (f : ℕ) (rule : Rule) (bs : Bytes) → ruleOf edition f ≡ rule → isKnown rule ≡ true → readEnvelope edition first (twoDigits f ++ bs) ≡ readBy rule first f bs
 unfolding readEnvelope
 indicator-pass edition first f rule bs known is =
     let so = two-digits f (known-small edition f (λ u. true≢false (sym is ∙ ap isKnown (sym known ∙ u)))) in

@@ -39,6 +39,9 @@ bytes-rowed k f (p ∷ ps) = λ i. append-nil p i ∷ bytes-rowed k f ps i
 pub bytes-pieces : (c k f : ℕ) (ps : List Bytes) → bytesOf (separated c (rowedEach k f ps)) ≡ joined c ps
 bytes-pieces c k f ps = bytes-separated c (rowedEach k f ps) ∙ ap (joined c) (bytes-rowed k f ps)
 
+pub bytes-each-ended : (c k f : ℕ) (ps : List Bytes) → bytesOf (ended c (rowedEach k f ps)) ≡ terminated c ps
+bytes-each-ended c k f ps = bytes-ended c (rowedEach k f ps) ∙ ap (terminated c) (bytes-rowed k f ps)
+
 pub bytes-element : (k f : ℕ) (e : Element) → bytesOf (elementParts k f e) ≡ joined US e
 bytes-element k f [] = refl
 bytes-element k f (s ∷ ss) = ap (λ r. s ++ r) (bytes-further US (rowedEach subElementRow f ss) ∙ ap (behind US) (bytes-rowed subElementRow f ss))

@@ -6,8 +6,10 @@ pub mod Splitting
 pub mod Laid
 pub mod Digits
 pub mod SegmentLaws
+pub mod Faults
 pub mod EnvelopeSound
 pub mod EnvelopeComplete
+pub mod FaultComplete
 pub mod MessageBytes
 pub mod Walk
 pub mod Placed
@@ -17,6 +19,7 @@ pub mod Places
 pub mod ReadingSound
 pub mod ReadingComplete
 pub mod PlaceOnce
+pub mod FaultFormats
 pub mod PayloadFree
 pub mod Answers
 pub mod Rendering

@@ -1,11 +1,13 @@
 -- The paper's numbers and values tell all of an answer: two readings, or two answers of the writer, with the same numbers and values are equal. From the
 -- numbers the answer is got back.
-use Prim.Native.Nat.{ℕ, zero, suc, _-_}
+use Prim.Native.Nat.{ℕ, _-_}
 use mathlib.Core.Path.{_≡_, refl, sym, ap, _∙_}
+use mathlib.Core.Bool.{cond}
 use mathlib.Core.List.{List, [], _∷_}
 use lib.ListN.{getD}
+use lib.Dec.{eqb}
 use Rattle.label.specs.declared.Reason.{Reason}
-use Rattle.label.specs.declared.Reason.the-variants.{TooLong, NoMessageHeader, NoIndicator, NoTrailer, BytesAfterTrailer, UnknownFormat, NotFirst, BadFormatHeader, PayloadDoesNotFit, ByteNotPermitted, BodyBreaksRules, NoRecordSeparator, TooManyRows, NoRoom}
+use Rattle.label.specs.declared.Reason.the-variants.{TooLong, NoMessageHeader, NoIndicator, NoTrailer, BytesAfterTrailer, UnknownFormat, NotFirst, BadFormatHeader, PayloadDoesNotFit, ByteNotPermitted, BodyBreaksRules, NoRecordSeparator, TooManyRows, NoRoom, BadFieldCount, FieldTooShort, FieldTooLong, BadFieldBytes}
 use Rattle.label.specs.declared.Reading.{Reading}
 use Rattle.label.specs.declared.Reading.the-variants.{Accepted, Refused}
 use Rattle.label.specs.declared.WriteReason.{WriteReason}
@@ -18,12 +20,16 @@ use Rattle.label.specs.Writing.{writeNumber, writeAnswerOf}
 abbrev reasons : List Reason
 reasons =
     TooLong ∷ NoMessageHeader ∷ NoIndicator ∷ NoTrailer ∷ BytesAfterTrailer ∷ UnknownFormat ∷ NotFirst
-    ∷ BadFormatHeader ∷ PayloadDoesNotFit ∷ ByteNotPermitted ∷ BodyBreaksRules ∷ NoRecordSeparator ∷ TooManyRows ∷ NoRoom ∷ []
+    ∷ BadFormatHeader ∷ PayloadDoesNotFit ∷ ByteNotPermitted ∷ BodyBreaksRules ∷ NoRecordSeparator ∷ TooManyRows ∷ NoRoom
+    ∷ BadFieldCount ∷ FieldTooShort ∷ FieldTooLong ∷ BadFieldBytes ∷ []
 
--- the reason of a number, counted from 1
+-- the first of reasons that has a number
+abbrev among : ℕ → List Reason → Reason
+among n [] = NoRoom
+among n (r ∷ rs) = cond (eqb n (number r)) r (among n rs)
+
 abbrev numbered : ℕ → Reason
-numbered zero = NoRoom
-numbered (suc n) = getD reasons n NoRoom
+numbered n = among n reasons
 
 numbered-back : (r : Reason) → numbered (number r) ≡ r
 numbered-back TooLong = refl
@@ -40,6 +46,10 @@ numbered-back BodyBreaksRules = refl
 numbered-back NoRecordSeparator = refl
 numbered-back TooManyRows = refl
 numbered-back NoRoom = refl
+numbered-back BadFieldCount = refl
+numbered-back FieldTooShort = refl
+numbered-back FieldTooLong = refl
+numbered-back BadFieldBytes = refl
 
 pub reasons-by-number : (r r′ : Reason) → number r ≡ number r′ → r ≡ r′
 reasons-by-number r r′ same = sym (numbered-back r) ∙ ap numbered same ∙ numbered-back r′

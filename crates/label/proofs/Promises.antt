@@ -1,26 +1,29 @@
 -- The promises about reading, each with its name and sentence; the work is done where the proof says. They hold for every edition and every list of
 -- bytes. What a reader must believe for them is Good (specs/Message), reading (specs/ReadMessage), readAnswer and tableAfter (specs/Answer), PlaceFor
--- (specs/Place), partOf (specs/Part), and the names in specs/Promised.
+-- (specs/Place, with specs/Lacking), partOf (specs/Part), and the names in specs/Promised.
 use Prim.Native.Nat.{ℕ, _≤_, _<_}
 use mathlib.Core.Path.{_≡_, sym, _∙_, subst}
-use mathlib.Core.Logic.{_↔_}
+use mathlib.Core.Bool.{true}
+use mathlib.Core.Logic.{_↔_, _⊎_}
 use mathlib.Core.List.{List, _∷_, _++_}
 use lib.ListN.{length}
 use Rattle.label.specs.declared.Reason.{Reason}
-use Rattle.label.specs.declared.Reason.the-variants.{NoRoom}
+use Rattle.label.specs.declared.Reason.the-variants.{BodyBreaksRules, NoRoom}
 use Rattle.label.specs.Bytes.{Bytes}
-use Rattle.label.specs.Formats.{Edition}
+use Rattle.label.specs.Formats.{Edition, ruleOf, asFields}
 use Rattle.label.specs.Layout.{allNumbers, itemsOf}
 use Rattle.label.specs.Envelope.{Envelope, counted}
-use Rattle.label.specs.Message.{messageParts, rowsOf, Good}
+use Rattle.label.specs.Written.{twoDigits}
+use Rattle.label.specs.Message.{isTransport, messageParts, rowsOf, Good}
 use Rattle.label.specs.ReadMessage.{Outcome, read, refused, reading}
 use Rattle.label.specs.Answer.{accepted, refusal, roomOf, readAnswer, overlaid, tableAfter}
 use Rattle.label.specs.Part.{emptyStart, stretchAt, partOf}
-use Rattle.label.specs.Place.{PlaceFor}
-use Rattle.label.specs.Promised.{NoneGood, IsRefused, RefusedForAnyRoom, AcceptedAs, RefusedSo, Alike, InOrder, Freed, new-message, bytesAt, contentAt}
+use Rattle.label.specs.Place.{judgedWhole, AtEnvelope, AtPiece, PlaceFor}
+use Rattle.label.specs.Promised.{NoneGood, IsRefused, RefusedForAnyRoom, AcceptedAs, RefusedSo, refusedFrom, Alike, InOrder, Freed, new-message, bytesAt, contentAt}
 use Rattle.label.proofs.ReadingSound.{ReadingSo, reading-so}
 use Rattle.label.proofs.ReadingComplete.{reading-pass}
 use Rattle.label.proofs.PlaceOnce.{one-place, none-if-good}
+use Rattle.label.proofs.FaultFormats.{transport-or-11, eleven-of-whole, eleven-not-01}
 use Rattle.label.proofs.PayloadFree.{freed}
 use Rattle.label.proofs.Answers.{refused-or-good, same-list, answered-with-room, answered-without, filled-with-room, refused-whatever-room, accepted-as, as-accepted, refused-so, so-refused, answer-inside, alike}
 use Rattle.label.proofs.Untouched.{refusal-leaves-table}
@@ -38,6 +41,18 @@ module _ (edition : Edition) (m : Bytes) where
   -- and none is so for a good one
   pub no-place-if-good : (r : Reason) (p : ℕ) (es : List Envelope) → Good edition m es → PlaceFor edition m r p → ⊥
   no-place-if-good r p es good so = none-if-good edition m r p es good so
+
+  -- 02, No. 1: 11 is never format 01's
+  pub never-11-in-01 : (p : ℕ) (so : PlaceFor edition m BodyBreaksRules p) (f : ℕ) (after : Bytes) → refusedFrom edition m p so ≡ twoDigits f ++ after → ruleOf edition f ≡ asFields → ⊥
+  never-11-in-01 p so f after bytes known = eleven-not-01 edition m p so f after bytes known
+
+  -- 02, No. 1: 11 at the indicator is 02's, 03's or 04's
+  pub eleven-at-the-indicator : (p : ℕ) (at : AtEnvelope edition m BodyBreaksRules p) (f : ℕ) (after : Bytes) → at .rest ≡ twoDigits f ++ after → judgedWhole (ruleOf edition f) ≡ true
+  eleven-at-the-indicator p at f after bytes = eleven-of-whole edition m p at f after bytes
+
+  -- 02, No. 1: what is wrong with a field or an element is 11 unless the envelope is 01's, so 30 to 33 are never another format's
+  pub field-faults-in-01 : (r : Reason) (p : ℕ) (at : AtPiece edition m r p) → (isTransport (at .envelope) ≡ true) ⊎ (r ≡ BodyBreaksRules)
+  field-faults-in-01 r p at = transport-or-11 edition (at .envelope) r (at .ahead) (at .fault)
 
   -- it is at most the message's length, that of 14 too
   pub place-within : (r : Reason) (p room : ℕ) → readAnswer edition m room ≡ refusal r p → p ≤ length m

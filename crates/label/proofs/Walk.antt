@@ -9,7 +9,7 @@ use lib.ListN.{length}
 use lib.Dec.{eqb}
 use Rattle.label.specs.Bytes.{Bytes, EOT}
 use Rattle.label.specs.Formats.{Edition}
-use Rattle.label.specs.ReadEnvelope.{Step, closed, whole, refuse, readEnvelope}
+use Rattle.label.specs.ReadEnvelope.{Step, closed, whole, refuse, refuseAt, readEnvelope}
 use Rattle.label.specs.ReadMessage.{Outcome, andThen, afterTrailer, atBoundary, follow, walk, unboundedWalk}
 use Rattle.label.proofs.EnvelopeSound.{StepSo, step-so}
 use Rattle.label.proofs.MessageBytes.{left-shorter}
@@ -28,6 +28,7 @@ follow-agree : (edition : Edition) (m : Bytes) (next next′ : Bytes → Outcome
 follow-agree edition m next next′ first bs (closed e left) so same = ap (andThen e) (boundary-agree m next next′ left (same left (left-shorter e bs left (so .bytes))))
 follow-agree edition m next next′ first bs (whole e) so same = refl
 follow-agree edition m next next′ first bs (refuse r) so same = refl
+follow-agree edition m next next′ first bs (refuseAt r from) so same = refl
 
 pub bound-is-enough : (edition : Edition) (m : Bytes) (n k : ℕ) (first : Bool) (bs : Bytes) → length bs < n → length bs < k → walk edition m n first bs ≡ walk edition m k first bs
 unfolding walk

@@ -1,7 +1,7 @@
 -- What a walk answers: a list of envelopes that are within their rules, in permitted places, and written out are the bytes walked over; or a refusal
 -- at an envelope's start behind such envelopes, or at the message's end.
 use Prim.Native.Nat.{ℕ, zero, suc, _<_}
-use mathlib.Core.Path.{_≡_, refl, sym, ap, _∙_}
+use mathlib.Core.Path.{_≡_, refl, sym, ap, _∙_, subst}
 use mathlib.Core.Bool.{Bool, true, false, _&&_, _||_, false≢true}
 use mathlib.Core.Logic.{_⊎_, inl, inr}
 use mathlib.Core.List.{List, [], _∷_, _++_}
@@ -18,10 +18,10 @@ use Rattle.label.specs.Envelope.{Envelope, Within}
 use Rattle.label.specs.Written.{parts}
 use Rattle.label.specs.Message.{isRest, Each}
 use Rattle.label.specs.Place.{goesOn}
-use Rattle.label.specs.ReadEnvelope.{Step, closed, whole, refuse, readEnvelope}
+use Rattle.label.specs.ReadEnvelope.{Step, closed, whole, refuse, refuseAt, readEnvelope}
 use Rattle.label.specs.ReadMessage.{Outcome, read, refused, placeOf, andThen, afterTrailer, atBoundary, follow, walk}
 use Rattle.label.proofs.Tests.{and-both, not-false}
-use Rattle.label.proofs.EnvelopeSound.{OfEnvelope, StepSo, ClosedSo, step-so}
+use Rattle.label.proofs.EnvelopeSound.{RefusedSo, FaultSo, StepSo, ClosedSo, step-so}
 use Rattle.label.proofs.MessageBytes.{closedBytes, left-shorter}
 use Rattle.label.proofs.Placed.{placed}
 
@@ -45,9 +45,10 @@ pub record AllClosed (edition : Edition) (first : Bool) (bs : Bytes) (es : List 
 abbrev pub firstAfter : Bool → List Envelope → Bool
 firstAfter first before = first && isEmpty before
 
--- where a walk stops behind envelopes: at an envelope that is refused, at the end of the message, or behind its EOT
+-- where a walk stops behind envelopes: at an envelope that is refused, in its body, at the end of the message, or behind its EOT
 pub data StopsAt (edition : Edition) (m : Bytes) (first : Bool) (before : List Envelope) (rest : Bytes) (r : Reason) (p : ℕ) : Type 0 where
-  inEnvelope : OfEnvelope r → (isEmpty before || goesOn rest) ≡ true → readEnvelope edition (firstAfter first before) rest ≡ refuse r → p ≡ placeOf m rest → StopsAt edition m first before rest r p
+  inEnvelope : RefusedSo edition rest r → (isEmpty before || goesOn rest) ≡ true → readEnvelope edition (firstAfter first before) rest ≡ refuse r → p ≡ placeOf m rest → StopsAt edition m first before rest r p
+  inBody : (from : Bytes) → FaultSo edition (firstAfter first before) rest r from → readEnvelope edition (firstAfter first before) rest ≡ refuseAt r from → p ≡ placeOf m from → StopsAt edition m first before rest r p
   atEnd : isEmpty before ≡ false → rest ≡ [] → r ≡ NoTrailer → p ≡ length m → StopsAt edition m first before rest r p
   behindEnd : (more : Bytes) → isEmpty before ≡ false → rest ≡ EOT ∷ more → isEmpty more ≡ false → r ≡ BytesAfterTrailer → p ≡ placeOf m more → StopsAt edition m first before rest r p
 
@@ -63,19 +64,25 @@ abbrev pub WalkSo : Edition → Bytes → Bool → Bytes → Outcome → Type 0
 WalkSo edition m first bs (read es) = Alone edition first bs es ⊎ AllClosed edition first bs es
 WalkSo edition m first bs (refused r p) = Stopped edition m first bs r p
 
+not-first : (first : Bool) → (first && false) ≡ false
+not-first true = refl
+not-first false = refl
+
+may-be-first : (first : Bool) → (first && true) ≡ first
+may-be-first true = refl
+may-be-first false = refl
+
 module _ (edition : Edition) (m : Bytes) where
   -- an envelope in front of what a walk over the rest, which goes on, answers
   stops-later : (first : Bool) (e : Envelope) (left : Bytes) (before : List Envelope) (rest : Bytes) (r : Reason) (p : ℕ) → goesOn left ≡ true → left ≡ closedBytes before rest
       → StopsAt edition m false before rest r p → StopsAt edition m first (e ∷ before) rest r p
   stops-later first e left before rest r p on bytes (inEnvelope why due is place) = inEnvelope why (later-due before bytes due) (ap (λ x. readEnvelope edition x rest) (not-first first) ∙ is) place
     where
-      not-first : (first : Bool) → (first && false) ≡ false
-      not-first true = refl
-      not-first false = refl
-
       later-due : (before : List Envelope) → left ≡ closedBytes before rest → (isEmpty before || goesOn rest) ≡ true → goesOn rest ≡ true
       later-due [] bytes due = sym (ap goesOn bytes) ∙ on
       later-due (e ∷ es) bytes due = due
+  stops-later first e left before rest r p on bytes (inBody from so is place) =
+      inBody from (subst (λ (x : Bool). FaultSo edition x rest r from) (sym (not-first first)) so) (ap (λ x. readEnvelope edition x rest) (not-first first) ∙ is) place
   stops-later first e left before rest r p on bytes (atEnd some none-left why place) = atEnd refl none-left why place
   stops-later first e left before rest r p on bytes (behindEnd more some is more-left why place) = behindEnd more refl is more-left why place
 
@@ -142,10 +149,14 @@ module _ (edition : Edition) (m : Bytes) where
   follow-so next first bs (whole e) is so later =
       inl record { one = e; only = refl; within = so .within; takesRest = so .takesRest; isFirst = so .isFirst; bytes = so .bytes }
   follow-so next first bs (refuse r) is so later = record { before = []; rest = bs; within = tt; inPlace = refl; bytes = refl; stops = inEnvelope so refl (ap (λ x. readEnvelope edition x bs) (may-be-first first) ∙ is) refl }
-    where
-      may-be-first : (first : Bool) → (first && true) ≡ first
-      may-be-first true = refl
-      may-be-first false = refl
+  follow-so next first bs (refuseAt r from) is so later = record {
+    before = [];
+    rest = bs;
+    within = tt;
+    inPlace = refl;
+    bytes = refl;
+    stops = inBody from (subst (λ (x : Bool). FaultSo edition x bs r from) (sym (may-be-first first)) so) (ap (λ x. readEnvelope edition x bs) (may-be-first first) ∙ is) refl;
+  }
 
   pub walk-so : (n : ℕ) (first : Bool) (bs : Bytes) → length bs < n → WalkSo edition m first bs (walk edition m n first bs)
   unfolding walk

@@ -5,7 +5,7 @@ use mathlib.Core.List.{List, [], _∷_, _++_, map}
 use lib.ListN.{length, drop}
 use lib.Dec.{ltb}
 use Rattle.label.specs.declared.Reason.{Reason}
-use Rattle.label.specs.declared.Reason.the-variants.{TooLong, NoMessageHeader, NoIndicator, NoTrailer, BytesAfterTrailer, UnknownFormat, NotFirst, BadFormatHeader, PayloadDoesNotFit, ByteNotPermitted, BodyBreaksRules, NoRecordSeparator, TooManyRows, NoRoom}
+use Rattle.label.specs.declared.Reason.the-variants.{TooLong, NoMessageHeader, NoIndicator, NoTrailer, BytesAfterTrailer, UnknownFormat, NotFirst, BadFormatHeader, PayloadDoesNotFit, ByteNotPermitted, BodyBreaksRules, NoRecordSeparator, TooManyRows, NoRoom, BadFieldCount, FieldTooShort, FieldTooLong, BadFieldBytes}
 use Rattle.label.specs.declared.Reading.{Reading}
 use Rattle.label.specs.declared.Reading.the-variants.{Accepted, Refused}
 use Rattle.label.specs.Bytes.{Bytes}
@@ -15,7 +15,7 @@ use Rattle.label.specs.Layout.{Row, numbers, allNumbers}
 use Rattle.label.specs.Message.{rowsOf}
 use Rattle.label.specs.ReadMessage.{Outcome, read, refused, reading}
 
--- the paper's number of a reason
+-- the papers' number of a reason (01, Numbers for the receiving desk; 02, No. 1)
 abbrev pub number : Reason → ℕ
 number TooLong = 1
 number NoMessageHeader = 2
@@ -31,6 +31,10 @@ number BodyBreaksRules = 11
 number NoRecordSeparator = 12
 number TooManyRows = 13
 number NoRoom = 14
+number BadFieldCount = 30
+number FieldTooShort = 31
+number FieldTooLong = 32
+number BadFieldBytes = 33
 
 -- the number and values of an answer: 0, envelopes and rows, or the reason's number and the place
 abbrev pub accepted : ℕ → ℕ → List ℕ

@@ -5,6 +5,7 @@ pub mod Values
 pub mod Elements
 pub mod Segments
 pub mod Fields
+pub mod Faults
 pub mod Formats
 pub mod Layout
 pub mod Envelope
@@ -14,6 +15,7 @@ pub mod ReadEnvelope
 pub mod ReadMessage
 pub mod Answer
 pub mod Part
+pub mod Lacking
 pub mod Place
 pub mod Rendered
 pub mod Writing

@@ -1,19 +1,22 @@
--- The column Place of 01, Numbers for the receiving desk: which reason and place are so for a message. What stands in front of the place, and that
--- nothing good can stand at it, is said from the writing side; of the reading side comes in only what a faulty envelope itself is answered with.
+-- The column Place of 01, Numbers for the receiving desk, and the places of 02, No. 1: which reason and place are so for a message. What stands in front
+-- of the place, that nothing good can stand at it, and what is wrong with a field or an element there (Lacking) is said from the writing side; of the
+-- reading side comes in only what a faulty envelope itself is answered with.
 use Prim.Native.Nat.{ℕ, _+_, _≤_, _<_}
 use mathlib.Core.Path.{_≡_}
 use mathlib.Core.Bool.{Bool, true, false, not, _||_}
+use mathlib.Core.Logic.{_⊎_}
 use mathlib.Core.List.{List, [], _∷_, _++_, map}
 use lib.ListN.{length}
 use lib.Dec.{eqb}
 use Rattle.label.specs.declared.Reason.{Reason}
-use Rattle.label.specs.declared.Reason.the-variants.{TooLong, NoMessageHeader, NoIndicator, NoTrailer, BytesAfterTrailer, UnknownFormat, NotFirst, BadFormatHeader, PayloadDoesNotFit, ByteNotPermitted, BodyBreaksRules, NoRecordSeparator, TooManyRows, NoRoom}
+use Rattle.label.specs.declared.Reason.the-variants.{TooLong, NoMessageHeader, NoIndicator, NoTrailer, BytesAfterTrailer, UnknownFormat, NotFirst, BadFormatHeader, PayloadDoesNotFit, ByteNotPermitted, BodyBreaksRules, NoRecordSeparator, TooManyRows, NoRoom, BadFieldCount, FieldTooShort, FieldTooLong, BadFieldBytes}
 use Rattle.label.specs.Bytes.{Bytes, EOT, RS, every, isEmpty}
 use Rattle.label.specs.Limits.{longest, mostRows}
-use Rattle.label.specs.Formats.{Edition}
+use Rattle.label.specs.Formats.{Edition, Rule, asFields, asRest, asSegments, asElements, asText, asCounted, unknown}
 use Rattle.label.specs.Layout.{marks, bytesOf, ended}
 use Rattle.label.specs.Envelope.{Envelope, Within}
 use Rattle.label.specs.Written.{parts}
+use Rattle.label.specs.Lacking.{FaultIn}
 use Rattle.label.specs.Message.{header, isTransport, isRest, transportOnlyFirst, restOnlyAlone, message, rowsOf, Each}
 use Rattle.label.specs.ReadEnvelope.{refuse, readEnvelope}
 use Rattle.label.specs.ReadMessage.{agreement}
@@ -45,10 +48,20 @@ abbrev pub goesOn : Bytes → Bool
 goesOn [] = false
 goesOn (b ∷ bs) = not (eqb b EOT)
 
+-- whether a format's body that breaks the rules is refused as a whole, 11 at the indicator: 02, 03 and 04
+abbrev pub judgedWhole : Rule → Bool
+judgedWhole asFields = false
+judgedWhole (asRest permitted) = true
+judgedWhole (asSegments isTag) = true
+judgedWhole (asElements isElement) = false
+judgedWhole (asText permitted) = false
+judgedWhole asCounted = false
+judgedWhole unknown = false
+
 -- Places
 
--- 3 and 6 to 12: the offset where an envelope is due, first of all or where the message goes on behind an envelope; none can stand there, and what stands
--- there is itself refused with that reason
+-- 3, 6 to 10 and 12, and 11 in 02, 03 and 04: the offset where an envelope is due, first of all or where the message goes on behind an envelope; none can
+-- stand there, and what stands there is itself refused with that reason
 pub record AtEnvelope (edition : Edition) (m : Bytes) (r : Reason) (p : ℕ) : Type 0 where
   pub short : length m ≤ longest
   pub before : List Envelope
@@ -58,6 +71,22 @@ pub record AtEnvelope (edition : Edition) (m : Bytes) (r : Reason) (p : ℕ) : T
   pub noneStands : CanStand edition before rest → ⊥
   pub answer : readEnvelope edition (isEmpty before) rest ≡ refuse r
   pub offset : p ≡ length (inFront before)
+
+-- 30 to 33, and 11 in 05 and 06: where an envelope is due none can stand, but one with a fault does, with its RS, in a permitted place; the place is
+-- where its faulty field or element starts, and in front of that stand the envelopes before it and its own bytes
+pub record AtPiece (edition : Edition) (m : Bytes) (r : Reason) (p : ℕ) : Type 0 where
+  pub short : length m ≤ longest
+  pub before : List Envelope
+  pub envelope : Envelope
+  pub left : Bytes
+  pub front : Front edition m before (bytesOf (parts envelope) ++ (RS ∷ left))
+  pub inPlace : (isEmpty before || not (isTransport envelope)) ≡ true
+  pub noneStands : CanStand edition before (bytesOf (parts envelope) ++ (RS ∷ left)) → ⊥
+  pub ahead : Bytes
+  pub fault : FaultIn edition envelope r ahead
+  pub behind : Bytes
+  pub bytes : m ≡ (inFront before ++ ahead) ++ behind
+  pub offset : p ≡ length (inFront before ++ ahead)
 
 -- 4: the message ends behind an envelope's RS, and the place is its length
 pub record AtEnd (edition : Edition) (m : Bytes) (p : ℕ) : Type 0 where
@@ -105,7 +134,11 @@ PlaceFor edition m NotFirst p = AtEnvelope edition m NotFirst p
 PlaceFor edition m BadFormatHeader p = AtEnvelope edition m BadFormatHeader p
 PlaceFor edition m PayloadDoesNotFit p = AtEnvelope edition m PayloadDoesNotFit p
 PlaceFor edition m ByteNotPermitted p = AtEnvelope edition m ByteNotPermitted p
-PlaceFor edition m BodyBreaksRules p = AtEnvelope edition m BodyBreaksRules p
+PlaceFor edition m BodyBreaksRules p = AtEnvelope edition m BodyBreaksRules p ⊎ AtPiece edition m BodyBreaksRules p
 PlaceFor edition m NoRecordSeparator p = AtEnvelope edition m NoRecordSeparator p
 PlaceFor edition m TooManyRows p = TooManyFor edition m p
 PlaceFor edition m NoRoom p = ⊥
+PlaceFor edition m BadFieldCount p = AtPiece edition m BadFieldCount p
+PlaceFor edition m FieldTooShort p = AtPiece edition m FieldTooShort p
+PlaceFor edition m FieldTooLong p = AtPiece edition m FieldTooLong p
+PlaceFor edition m BadFieldBytes p = AtPiece edition m BadFieldBytes p

@@ -1,17 +1,18 @@
 -- What the promises speak of, where a statement needs a name of its own (proofs/Promises, proofs/WriterPromises).
 use Prim.Native.Nat.{ℕ, zero, suc, _+_, _*_, _≤_, _<_}
 use mathlib.Core.Path.{_≡_}
-use mathlib.Core.Logic.{_⊎_}
+use mathlib.Core.Logic.{_⊎_, inl, inr}
 use mathlib.Core.List.{List, [], _∷_, _++_}
 use lib.ListN.{length, take, drop}
 use Rattle.label.specs.declared.Reason.{Reason}
 use Rattle.label.specs.declared.Stretch.{Stretch}
-use Rattle.label.specs.declared.Reason.the-variants.{NoRoom}
-use Rattle.label.specs.Bytes.{Bytes}
+use Rattle.label.specs.declared.Reason.the-variants.{BodyBreaksRules, NoRoom}
+use Rattle.label.specs.Bytes.{Bytes, RS}
 use Rattle.label.specs.Limits.{rowWidth}
 use Rattle.label.specs.Formats.{Edition}
-use Rattle.label.specs.Layout.{Item, Row, itemsOf}
+use Rattle.label.specs.Layout.{Item, Row, bytesOf, itemsOf}
 use Rattle.label.specs.Envelope.{Envelope, counted}
+use Rattle.label.specs.Written.{parts}
 use Rattle.label.specs.Message.{messageParts, rowsOf, Good}
 use Rattle.label.specs.ReadMessage.{refused, reading}
 use Rattle.label.specs.Answer.{refusal, roomOf, readAnswer, tableAfter}
@@ -55,6 +56,11 @@ module _ (edition : Edition) (m : Bytes) where
   -- a reason and a place that are so for the message; or 14 at 0, as the table lacks room
   abbrev pub RefusedSo : ℕ → Reason → ℕ → Type 0
   RefusedSo room r p = PlaceFor edition m r p ⊎ ((r ≡ NoRoom) × (p ≡ 0) × LacksRoom room)
+
+-- the bytes from the indicator of the envelope on that is refused with 11
+abbrev pub refusedFrom : (edition : Edition) (m : Bytes) (p : ℕ) → PlaceFor edition m BodyBreaksRules p → Bytes
+refusedFrom edition m p (inl at) = at .rest
+refusedFrom edition m p (inr at) = bytesOf (parts (at .envelope)) ++ (RS ∷ at .left)
 
 -- the same answer for every room, and the same numbers in every table
 pub record Alike (edition : Edition) (m m′ : Bytes) : Type 0 where

@@ -1,5 +1,6 @@
--- How one envelope is read: what is answered where an indicator is due (01, Numbers for the receiving desk). Each refusal here has that offset as its
--- place. In a definition the refusals stand in the paper's order: 3, 6, 7, 8, then 9, or 12, 10 and 11, or for format 02 11 and 10.
+-- How one envelope is read: what is answered where an indicator is due (01, Numbers for the receiving desk). A refusal has that offset as its place, or
+-- where a field or an element is at fault the offset at which that starts (02, No. 1). In a definition the refusals stand in the paper's order: 3, 6, 7,
+-- 8, then 9, or 12, 10 and 11 (for 01 30 to 33 in its stead), or for format 02 11 and 10.
 use Prim.Native.Nat.{ℕ, _+_}
 use mathlib.Core.Bool.{Bool, true, false, not, _&&_, _||_, cond}
 use mathlib.Core.Option.{Option, none, some}
@@ -7,20 +8,24 @@ use mathlib.Core.List.{List, [], _∷_, map}
 use lib.ListN.{length, getD, take, drop}
 use lib.Dec.{ltb, eqb}
 use Rattle.label.specs.declared.Reason.{Reason}
+use Rattle.label.specs.declared.BodyFault.{BodyFault}
+use Rattle.label.specs.declared.BodyFault.the-variants.{InPiece, OfWhole}
 use Rattle.label.specs.declared.Reason.the-variants.{NoIndicator, UnknownFormat, NotFirst, BadFormatHeader, PayloadDoesNotFit, ByteNotPermitted, BodyBreaksRules, NoRecordSeparator}
 use Rattle.label.specs.Bytes.{Bytes, FS, GS, RS, US, plain, digit, every, isEmpty, sameBytes}
 use Rattle.label.specs.Pieces.{pieces, lastIsEmpty, withoutLast, Cut, found, absent, cut}
 use Rattle.label.specs.Values.{Version, version02, version96, versionDigits, releaseLength, release, payloadType, compression, count, value}
 use Rattle.label.specs.Segments.{Segment, tagged}
 use Rattle.label.specs.Fields.{transport}
+use Rattle.label.specs.Faults.{fieldsFault, elementsFault, wholeFault}
 use Rattle.label.specs.Formats.{Edition, Rule, ruleOf, asFields, asRest, asSegments, asElements, asText, asCounted, unknown}
 use Rattle.label.specs.Envelope.{Envelope, fields, wholeRest, segments, elements, text, counted}
 
--- an envelope and what follows its RS; an envelope that takes all the rest; or a refusal
+-- an envelope and what follows its RS; an envelope that takes all the rest; a refusal at the indicator; or one where the last bytes begin
 pub data Step : Type 0 where
   closed : Envelope → Bytes → Step
   whole : Envelope → Step
   refuse : Reason → Step
+  refuseAt : Reason → Bytes → Step
 
 -- refused unless a test holds
 abbrev pub must : Bool → Reason → Step → Step
@@ -43,18 +48,23 @@ valuedAt test next (found v bs) = must (test v) BadFormatHeader (next v bs)
 abbrev pub valued : (Bytes → Bool) → Bytes → (Bytes → Bytes → Step) → Step
 valued test bs next = valuedAt test next (cut GS bs)
 
--- Bodies that run to the first RS: 12, 10, 11
+-- Bodies that run to the first RS: 12, 10, and then what their rules say
 
-abbrev pub bodyAt : (ℕ → Bool) → (Bytes → Bool) → (Bytes → Envelope) → Cut → Step
-bodyAt permitted rules made absent = refuse NoRecordSeparator
-bodyAt permitted rules made (found body left) =
+-- a body that breaks its rules, by its fault: bs begin where it begins
+abbrev pub broken : Bytes → BodyFault → Step
+broken bs OfWhole = refuse BodyBreaksRules
+broken bs (InPiece reason at) = refuseAt reason (drop at bs)
+
+abbrev pub bodyAt : (ℕ → Bool) → (Bytes → Bool) → (Bytes → Step) → (Bytes → Envelope) → Cut → Step
+bodyAt permitted rules otherwise made absent = refuse NoRecordSeparator
+bodyAt permitted rules otherwise made (found body left) =
     must (every permitted body) ByteNotPermitted
-    (must (rules body) BodyBreaksRules
-    (closed (made body) left))
+    (cond (rules body) (closed (made body) left)
+    (otherwise body))
 
--- the body's permitted bytes, its rules, and the envelope that it makes
-unfoldable pub bodied : (ℕ → Bool) → (Bytes → Bool) → (Bytes → Envelope) → Bytes → Step
-bodied permitted rules made bs = bodyAt permitted rules made (cut RS bs)
+-- the body's permitted bytes, its rules, which fault it has if it breaks them, and the envelope that it makes
+unfoldable pub bodied : (ℕ → Bool) → (Bytes → Bool) → (Bytes → BodyFault) → (Bytes → Envelope) → Bytes → Step
+bodied permitted rules fault made bs = bodyAt permitted rules (λ body. broken bs (fault body)) made (cut RS bs)
 
 -- Formats
 
@@ -70,7 +80,7 @@ versionOf bs =
 
 unfoldable pub readFields : ℕ → Option Version → Bytes → Step
 readFields f none bs = refuse BadFormatHeader
-readFields f (some v) bs = bodied plainOrGS (λ body. transport v (pieces GS body)) (λ body. fields f v (pieces GS body)) bs
+readFields f (some v) bs = bodied plainOrGS (λ body. transport v (pieces GS body)) (fieldsFault v) (λ body. fields f v (pieces GS body)) bs
 
 unfoldable pub readTransport : ℕ → Bytes → Step
 readTransport f bs = opened (GS ∷ []) bs λ after. readFields f (versionOf (take 2 after)) (drop 2 after)
@@ -96,17 +106,17 @@ unfoldable pub readSegments : (Bytes → Bool) → ℕ → Bytes → Step
 readSegments isTag f bs =
     must (release (take releaseLength bs)) BadFormatHeader
     (opened (FS ∷ GS ∷ US ∷ []) (drop releaseLength bs) λ after.
-    bodied segmentByte (areSegments isTag) (λ body. segments f (take releaseLength bs) (segmentsIn body)) after)
+    bodied segmentByte (areSegments isTag) wholeFault (λ body. segments f (take releaseLength bs) (segmentsIn body)) after)
 
 -- 05, 06: GS, then elements split by GS
 unfoldable pub readElements : (Bytes → Bool) → ℕ → Bytes → Step
 readElements isElement f bs =
     opened (GS ∷ []) bs λ after.
-    bodied plainOrGS (λ body. every isElement (pieces GS body)) (λ body. elements f (pieces GS body)) after
+    bodied plainOrGS (λ body. every isElement (pieces GS body)) (elementsFault isElement) (λ body. elements f (pieces GS body)) after
 
 -- 07: text
 unfoldable pub readText : (ℕ → Bool) → ℕ → Bytes → Step
-readText permitted f bs = bodied permitted (λ body. true) (text f) bs
+readText permitted f bs = bodied permitted (λ body. true) wholeFault (text f) bs
 
 -- 09: the payload and its RS are to fit, and the byte after the payload is RS; nothing is looked for inside the payload
 unfoldable pub readPayload : ℕ → (Bytes → Envelope) → Bytes → Step

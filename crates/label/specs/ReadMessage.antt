@@ -11,7 +11,7 @@ use Rattle.label.specs.Limits.{longest, mostRows}
 use Rattle.label.specs.Formats.{Edition}
 use Rattle.label.specs.Envelope.{Envelope}
 use Rattle.label.specs.Message.{header, rowsOf}
-use Rattle.label.specs.ReadEnvelope.{Step, closed, whole, refuse, readEnvelope}
+use Rattle.label.specs.ReadEnvelope.{Step, closed, whole, refuse, refuseAt, readEnvelope}
 
 pub data Outcome : Type 0 where
   read : List Envelope → Outcome
@@ -41,6 +41,7 @@ abbrev pub follow : Bytes → (Bytes → Outcome) → Bytes → Step → Outcome
 follow m next bs (closed e left) = andThen e (atBoundary m next left)
 follow m next bs (whole e) = read (e ∷ [])
 follow m next bs (refuse reason) = refused reason (placeOf m bs)
+follow m next bs (refuseAt reason from) = refused reason (placeOf m from)
 
 -- the envelopes from the left, at most n of them
 unfoldable pub walk : Edition → Bytes → ℕ → Bool → Bytes → Outcome

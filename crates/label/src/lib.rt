@@ -38,7 +38,8 @@ pub const MOST_FIELDS_02: usize = 15;
 
 pub const MOST_FIELDS_96: usize = 14;
 
-// Why a message is refused: 'Numbers for the receiving desk', in its order. `number` of specs/Answer has each one's number.
+// Why a message is refused: 'Numbers for the receiving desk', in its order, and then the faults of transport fields (02, No. 1). `number`
+// of specs/Answer has each one's number.
 pub enum Reason {
     TooLong,
     NoMessageHeader,
@@ -54,6 +55,23 @@ pub enum Reason {
     NoRecordSeparator,
     TooManyRows,
     NoRoom,
+    BadFieldCount,
+    FieldTooShort,
+    FieldTooLong,
+    BadFieldBytes,
+}
+
+// What is wrong with one piece of a body, a field or an element: why it is refused, or nothing (02, No. 1).
+pub enum PieceFault {
+    Faulty(Reason),
+    Faultless,
+}
+
+// What is wrong with a body that breaks its format's rules: why one of its pieces is refused and where in the body that starts; or no piece
+// by itself, so that the body is refused as a whole (02, No. 1).
+pub enum BodyFault {
+    InPiece(Reason, usize),
+    OfWhole,
 }
 
 // A refusal holds its reason and its place, an offset in the message.
