@@ -10,6 +10,7 @@ use Rattle.leaves.specs.Classes.{classOf}
 use Rattle.leaves.specs.declared.Class.{Class}
 use Rattle.leaves.specs.declared.Class.the-variants.{Plain, Digit, CapitalOrDigit, PlainOrGs, SegmentByte, TextByte, RestByte}
 use Rattle.bodies.proofs.permitted.Reads as permitted
+use Rattle.bodies.proofs.last_empty.Reads as last-empty
 use Rattle.bodies.proofs.rules_hold.Reads as rules-hold
 use Rattle.bodies.proofs.rows_in.Reads as rows-in
 
@@ -37,6 +38,9 @@ class-by-test a b same = sym (told-back a) ∙ ap told same ∙ told-back b
 
 pub permitted-once : (κs : Lfts 0) (a : _) (r r′ : _) (s s′ : _) → permitted.Learnt κs a r s → permitted.Learnt κs a r′ s′ → r ≡ r′
 permitted-once κs a r r′ s s′ one two = class-by-test r r′ (one ∙ sym two)
+
+pub last-empty-once : (κs : Lfts 1) (a : _) (r r′ : _) (s s′ : _) → last-empty.Learnt κs a r s → last-empty.Learnt κs a r′ s′ → r ≡ r′
+last-empty-once κs a r r′ s s′ one two = one ∙ sym two
 
 pub rules-hold-once : (κs : Lfts 1) (a : _) (r r′ : _) (s s′ : _) → rules-hold.Learnt κs a r s → rules-hold.Learnt κs a r′ s′ → r ≡ r′
 rules-hold-once κs a r r′ s s′ one two = one ∙ sym two

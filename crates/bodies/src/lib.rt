@@ -65,7 +65,7 @@ fn pieces_hold(k: Kind, s: &[u8]) -> bool
 }
 
 // Whether the last piece is empty: there are no bytes, or the last is the separator.
-fn last_empty(s: &[u8], c: u8) -> bool
+pub fn last_empty(s: &[u8], c: u8) -> bool
     ensures { λ r. ⌜ r ≡ lastIsEmpty (pieces c (now (s .entry))) ⌝ }
 {
     if s.len() == 0 {

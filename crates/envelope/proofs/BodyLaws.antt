@@ -6,7 +6,7 @@ use native.Mathlib.Omega.{arith}
 use borrow.Author.Tests.{lt-ltb, le-ltb}
 use lib.ListN.{length, take, drop, length-take, length-drop}
 use lib.Dec.{ltb}
-use Rattle.label.specs.declared.Reason.the-variants.{ByteNotPermitted, BodyBreaksRules, NoRecordSeparator}
+use Rattle.label.specs.declared.Reason.the-variants.{ByteNotPermitted, NoRecordSeparator}
 use Rattle.label.specs.Bytes.{Bytes, GS, RS, every}
 use Rattle.label.proofs.Tests.{cond-yes, cond-no}
 use Rattle.leaves.specs.Seek.{seek}
@@ -14,9 +14,10 @@ use Rattle.pieces.specs.declared.Kind.{Kind}
 use Rattle.pieces.specs.declared.Kind.the-variants.{Fields02, Fields96, Segments03, Segments04, Elements05, Elements06, Text}
 use Rattle.bodies.specs.Kinds.{permittedOf, rulesOf, rowsOfBody}
 use Rattle.bodies.proofs.RuleLaws.{rows-inside, tally-inside}
+use Rattle.faults.specs.PieceFaults.{faultOf}
 use Rattle.envelope.specs.declared.Found.{Found}
 use Rattle.envelope.specs.declared.Found.the-variants.{Closed, Refused}
-use Rattle.envelope.specs.Bodies.{bodyFound}
+use Rattle.envelope.specs.Bodies.{faultFound, bodyFound}
 
 module _ (k : Kind) (before : ℕ) (m : Bytes) (at end : ℕ) (inside : at ≤ length m) (is : end ≡ at + seek RS (drop at m)) where
   abbrev n : ℕ
@@ -34,7 +35,7 @@ module _ (k : Kind) (before : ℕ) (m : Bytes) (at end : ℕ) (inside : at ≤ l
   judged body =
       cond (every (permittedOf k) body)
       (cond (rulesOf k body) (Closed (end + 1) (before + rowsOfBody k body))
-      (Refused BodyBreaksRules))
+      (faultFound at (faultOf k body)))
       (Refused ByteNotPermitted)
 
   body-some : end < length m → judged (take (end - at) (drop at m)) ≡ bodyFound k before m at
@@ -45,7 +46,7 @@ module _ (k : Kind) (before : ℕ) (m : Bytes) (at end : ℕ) (inside : at ≤ l
       let here : n < length (drop at m) = omega arith in
       (λ i. cond (every (permittedOf k) (take (first i) (drop at m)))
       (cond (rulesOf k (take (first i) (drop at m))) (Closed (is i + 1) (before + rowsOfBody k (take (first i) (drop at m))))
-      (Refused BodyBreaksRules))
+      (faultFound at (faultOf k (take (first i) (drop at m)))))
       (Refused ByteNotPermitted))
       ∙ sym (cond-yes (ltb n (length (drop at m))) _ _ (lt-ltb n (length (drop at m)) here))
 
@@ -53,7 +54,8 @@ module _ (k : Kind) (before : ℕ) (m : Bytes) (at end : ℕ) (inside : at ≤ l
   unfolding judged
   body-byte some not-permitted = sym (cond-no (every (permittedOf k) (take (end - at) (drop at m))) _ _ not-permitted) ∙ body-some some
 
-  pub body-rule : end < length m → every (permittedOf k) (take (end - at) (drop at m)) ≡ true → rulesOf k (take (end - at) (drop at m)) ≡ false → Refused BodyBreaksRules ≡ bodyFound k before m at
+  pub body-rule : end < length m → every (permittedOf k) (take (end - at) (drop at m)) ≡ true → rulesOf k (take (end - at) (drop at m)) ≡ false
+      → faultFound at (faultOf k (take (end - at) (drop at m))) ≡ bodyFound k before m at
   unfolding judged
   body-rule some permitted broken =
       sym (cond-yes (every (permittedOf k) (take (end - at) (drop at m))) _ _ permitted ∙ cond-no (rulesOf k (take (end - at) (drop at m))) _ _ broken) ∙ body-some some

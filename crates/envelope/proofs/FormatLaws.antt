@@ -13,14 +13,16 @@ use Rattle.label.specs.declared.Reason.{Reason}
 use Rattle.label.specs.declared.Reason.the-variants.{BadFormatHeader, PayloadDoesNotFit, ByteNotPermitted, BodyBreaksRules, NoRecordSeparator}
 use Rattle.label.specs.Bytes.{Bytes, ascii, FS, GS, RS, US, plain, digit, capitalOrDigit, every, isEmpty}
 use Rattle.label.specs.Limits.{longAs, _to_}
-use Rattle.label.specs.Pieces.{pieces, lastIsEmpty, cut}
+use Rattle.label.specs.declared.BodyFault.{BodyFault}
+use Rattle.label.specs.declared.BodyFault.the-variants.{InPiece, OfWhole}
+use Rattle.label.specs.Pieces.{pieces, lastIsEmpty, Cut, cut}
 use Rattle.label.specs.Values.{Version, version02, version96, versionDigits, releaseLength, release, payloadType, compression, count, value}
 use Rattle.label.specs.Elements.{element05, element06}
 use Rattle.label.specs.Segments.{tag, tag03, tagged}
 use Rattle.label.specs.Formats.{restByte, textByte}
 use Rattle.label.specs.Envelope.{Envelope, fields, wholeRest, segments, elements, text, counted}
 use Rattle.label.specs.Written.{pieceRow, parts}
-use Rattle.label.specs.ReadEnvelope.{Step, closed, whole, refuse, must, opened, valuedAt, valued, bodyAt, bodied, versionOf, readFields, readTransport, readRest, segmentsIn, areSegments, readSegments, readElements, readText, readPayload, readCounted}
+use Rattle.label.specs.ReadEnvelope.{Step, closed, whole, refuse, must, opened, valuedAt, valued, broken, bodyAt, bodied, versionOf, readFields, readTransport, readRest, segmentsIn, areSegments, readSegments, readElements, readText, readPayload, readCounted}
 use Rattle.label.specs.ReadMessage.{agreement}
 use Rattle.label.proofs.Tests.{both, and-both, cond-yes, cond-no}
 use Rattle.label.proofs.EnvelopeSound.{version-so}
@@ -32,10 +34,12 @@ use Rattle.pieces.proofs.SeekLaws.{cut-found, cut-absent}
 use Rattle.bodies.specs.Kinds.{permittedOf, rulesOf, rowsOfBody}
 use Rattle.bodies.proofs.RuleLaws.{pieces-count}
 use Rattle.bodies.proofs.PieceLaws.{leb-same}
+use Rattle.faults.specs.PieceFaults.{faultOf}
+use Rattle.faults.proofs.FaultLaws.{fault-inside}
 use Rattle.envelope.specs.declared.Found.{Found}
-use Rattle.envelope.specs.declared.Found.the-variants.{Closed, Refused}
+use Rattle.envelope.specs.declared.Found.the-variants.{Closed, Refused, RefusedAt}
 use Rattle.envelope.specs.Shown.{rowCount, shown}
-use Rattle.envelope.specs.Bodies.{bodyFound}
+use Rattle.envelope.specs.Bodies.{faultFound, bodyFound}
 use Rattle.envelope.specs.Headers.{valueEnd}
 use Rattle.envelope.specs.Formats.{beginsAt, transportFound, restFound, segmentsFound, elementsFound, payloadFound, afterValue, countFound, compressionFound, countedFound}
 use Rattle.envelope.proofs.ValueLaws.{begins-long}
@@ -50,18 +54,27 @@ shown-must m false r s = refl
 
 module _ (k : Kind) (before : ℕ) (m : Bytes) (at : ℕ) (made : Bytes → Envelope) (inside : at ≤ length m)
     (counts : (body : Bytes) → rulesOf k body ≡ true → rowCount (made body) ≡ before + rowsOfBody k body) where
-  judged-body : (body left : Bytes) (end : ℕ) → length m - length left ≡ end
-      → shown m (must (every (permittedOf k) body) ByteNotPermitted (must (rulesOf k body) BodyBreaksRules (closed (made body) left)))
-      ≡ cond (every (permittedOf k) body) (cond (rulesOf k body) (Closed end (before + rowsOfBody k body)) (Refused BodyBreaksRules)) (Refused ByteNotPermitted)
-  judged-body body left end is = by (every (permittedOf k) body) (rulesOf k body) refl
+  -- a body that breaks its rules
+  shown-broken : (fault : BodyFault) → ((r : Reason) (n : ℕ) → fault ≡ InPiece r n → n ≤ length (drop at m)) → shown m (broken (drop at m) fault) ≡ faultFound at fault
+  shown-broken (InPiece r n) fits =
+      let least = fits r n refl in
+      let place : length m - length (drop n (drop at m)) ≡ at + n = omega (arith, length-drop n (drop at m), length-drop at m) in
+      ap (RefusedAt r) place
+  shown-broken OfWhole fits = refl
+
+  judged-body : (body left : Bytes) (end : ℕ) → length m - length left ≡ end → length body ≤ length (drop at m)
+      → shown m (must (every (permittedOf k) body) ByteNotPermitted (cond (rulesOf k body) (closed (made body) left) (broken (drop at m) (faultOf k body))))
+      ≡ cond (every (permittedOf k) body) (cond (rulesOf k body) (Closed end (before + rowsOfBody k body)) (faultFound at (faultOf k body))) (Refused ByteNotPermitted)
+  judged-body body left end is fits = by (every (permittedOf k) body) (rulesOf k body) refl
     where
       by : (s t : Bool) → rulesOf k body ≡ t
-          → shown m (must s ByteNotPermitted (must t BodyBreaksRules (closed (made body) left))) ≡ cond s (cond t (Closed end (before + rowsOfBody k body)) (Refused BodyBreaksRules)) (Refused ByteNotPermitted)
+          → shown m (must s ByteNotPermitted (cond t (closed (made body) left) (broken (drop at m) (faultOf k body))))
+          ≡ cond s (cond t (Closed end (before + rowsOfBody k body)) (faultFound at (faultOf k body))) (Refused ByteNotPermitted)
       by true true h = λ i. Closed (is i) (counts body h i)
-      by true false h = refl
+      by true false h = shown-broken (faultOf k body) (λ r n found. let least = fault-inside k body r n found in omega arith)
       by false t h = refl
 
-  pub shown-body : shown m (bodied (permittedOf k) (rulesOf k) made (drop at m)) ≡ bodyFound k before m at
+  pub shown-body : shown m (bodied (permittedOf k) (rulesOf k) (faultOf k) made (drop at m)) ≡ bodyFound k before m at
   unfolding bodied bodyFound
   shown-body = by (ltb (seek RS (drop at m)) (length (drop at m))) refl
     where
@@ -71,15 +84,18 @@ module _ (k : Kind) (before : ℕ) (m : Bytes) (at : ℕ) (made : Bytes → Enve
       n : ℕ
       n = seek RS bs
 
-      by : (t : Bool) → ltb n (length bs) ≡ t → shown m (bodyAt (permittedOf k) (rulesOf k) made (cut RS bs))
-          ≡ cond t (cond (every (permittedOf k) (take n bs)) (cond (rulesOf k (take n bs)) (Closed (at + n + 1) (before + rowsOfBody k (take n bs))) (Refused BodyBreaksRules)) (Refused ByteNotPermitted)) (Refused NoRecordSeparator)
+      step : Cut → Step
+      step = bodyAt (permittedOf k) (rulesOf k) (λ body. broken bs (faultOf k body)) made
+
+      by : (t : Bool) → ltb n (length bs) ≡ t → shown m (step (cut RS bs))
+          ≡ cond t (cond (every (permittedOf k) (take n bs)) (cond (rulesOf k (take n bs)) (Closed (at + n + 1) (before + rowsOfBody k (take n bs))) (faultFound at (faultOf k (take n bs)))) (Refused ByteNotPermitted)) (Refused NoRecordSeparator)
       by true here =
           let less = ltb-true n (length bs) here in
           let long = length-drop at m in
           let left = length-drop (n + 1) bs in
-          ap (λ c. shown m (bodyAt (permittedOf k) (rulesOf k) made c)) (cut-found RS bs less)
-          ∙ judged-body (take n bs) (drop (n + 1) bs) (at + n + 1) (omega arith)
-      by false past = ap (λ c. shown m (bodyAt (permittedOf k) (rulesOf k) made c)) (cut-absent RS bs (ltb-false n (length bs) past))
+          ap (λ c. shown m (step c)) (cut-found RS bs less)
+          ∙ judged-body (take n bs) (drop (n + 1) bs) (at + n + 1) (omega arith) (omega (arith, length-take n bs))
+      by false past = ap (λ c. shown m (step c)) (cut-absent RS bs (ltb-false n (length bs) past))
 
 -- Headers
 

@@ -5,9 +5,9 @@ use Rattle.label.specs.Bytes.{Bytes}
 use Rattle.label.specs.Layout.{itemsOf}
 use Rattle.label.specs.Envelope.{Envelope}
 use Rattle.label.specs.Written.{parts}
-use Rattle.label.specs.ReadEnvelope.{Step, closed, whole, refuse}
+use Rattle.label.specs.ReadEnvelope.{Step, closed, whole, refuse, refuseAt}
 use Rattle.envelope.specs.declared.Found.{Found}
-use Rattle.envelope.specs.declared.Found.the-variants.{Closed, Whole, Refused}
+use Rattle.envelope.specs.declared.Found.the-variants.{Closed, Whole, Refused, RefusedAt}
 
 -- how many rows an envelope has
 abbrev pub rowCount : Envelope → ℕ
@@ -18,3 +18,4 @@ abbrev pub shown : Bytes → Step → Found
 shown m (closed e left) = Closed (length m - length left) (rowCount e)
 shown m (whole e) = Whole (rowCount e)
 shown m (refuse reason) = Refused reason
+shown m (refuseAt reason from) = RefusedAt reason (length m - length from)

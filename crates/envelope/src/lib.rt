@@ -13,11 +13,12 @@ ghost use Rattle.label.specs.ReadEnvelope.{readBy, readEnvelope};
 ghost use Rattle.envelope.specs.Shown.{shown};
 
 // What is found where an envelope is due: an envelope with the offset behind its RS and its rows, one that takes all the rest with its
-// rows, or why there is none. `shown` of specs/Shown has what each says.
+// rows, why there is none, or why one of its fields or elements is refused and where that starts. `shown` of specs/Shown has what each says.
 pub enum Found {
     Closed(usize, usize),
     Whole(usize),
     Refused(Reason),
+    RefusedAt(Reason, usize),
 }
 
 // The format with a number, behind its indicator: 6, then 7, then its header and body.

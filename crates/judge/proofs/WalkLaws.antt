@@ -16,13 +16,13 @@ use Rattle.label.specs.Formats.{edition2005}
 use Rattle.label.specs.Layout.{bytesOf}
 use Rattle.label.specs.Envelope.{Envelope}
 use Rattle.label.specs.Written.{parts}
-use Rattle.label.specs.ReadEnvelope.{Step, closed, whole, refuse, readEnvelope}
+use Rattle.label.specs.ReadEnvelope.{Step, closed, whole, refuse, refuseAt, readEnvelope}
 use Rattle.label.specs.ReadMessage.{Outcome, read, refused, placeOf, andThen, afterTrailer, atBoundary, follow, unboundedWalk}
 use Rattle.label.proofs.EnvelopeSound.{StepSo, step-so}
 use Rattle.label.proofs.Walk.{one-step-then-walk}
 use Rattle.label.proofs.Tests.{cond-yes, cond-no}
 use Rattle.leaves.proofs.Turns.{drop-step, drop-past}
-use Rattle.envelope.specs.declared.Found.the-variants.{Closed, Whole, Refused}
+use Rattle.envelope.specs.declared.Found.the-variants.{Closed, Whole, Refused, RefusedAt}
 use Rattle.envelope.specs.Shown.{rowCount, shown}
 use Rattle.judge.specs.declared.State.{State}
 use Rattle.judge.specs.declared.Turn.the-variants.{Done, Go}
@@ -149,6 +149,7 @@ module _ (m : Bytes) (s : State) (sound : Sound m s) where
       }
   closed-by (whole e) is so next rows found = let z : _≡_ {A = ℕ} 0 1 = cc in absurd (omega arith)
   closed-by (refuse r) is so next rows found = let z : _≡_ {A = ℕ} 0 1 = cc in absurd (omega arith)
+  closed-by (refuseAt r from) is so next rows found = let z : _≡_ {A = ℕ} 0 1 = cc in absurd (omega arith)
 
   pub turn-closed : (next rows : ℕ) → shown m (readEnvelope edition2005 (s .first) (drop (s .at) m)) ≡ Closed next rows → ClosedBy next rows
   turn-closed next rows found = closed-by (readEnvelope edition2005 (s .first) (drop (s .at) m)) refl (step-so edition2005 (s .first) (drop (s .at) m)) next rows found
@@ -171,6 +172,7 @@ module _ (m : Bytes) (s : State) (sound : Sound m s) where
       let sum : s .rows + rows ≡ s .rows + (rowCount e + 0) = omega arith in
       (omega arith, ap (λ n. Accepted (record { envelopes = s .envelopes + 1; rows = n })) sum ∙ sym (result-by (whole e) is))
   whole-by (refuse r) is so rows found = let z : _≡_ {A = ℕ} 0 1 = cc in absurd (omega arith)
+  whole-by (refuseAt r from) is so rows found = let z : _≡_ {A = ℕ} 0 1 = cc in absurd (omega arith)
 
   pub turn-whole : (rows : ℕ) → shown m (readEnvelope edition2005 (s .first) (drop (s .at) m)) ≡ Whole rows
       → (rows ≤ length m) × (Accepted (record { envelopes = s .envelopes + 1; rows = s .rows + rows }) ≡ resultOf m s)
@@ -185,6 +187,19 @@ module _ (m : Bytes) (s : State) (sound : Sound m s) where
       let within = sound .inside in
       let place : s .at ≡ placeOf m (drop (s .at) m) = omega arith in
       (λ i. RefusedReading (record { reason = why i; place = place i })) ∙ sym (result-by (refuse r′) is)
+  refused-by (refuseAt r′ from) is r found = let z : _≡_ {A = ℕ} 0 1 = cc in absurd (omega arith)
 
   pub turn-refused : (r : Reason) → shown m (readEnvelope edition2005 (s .first) (drop (s .at) m)) ≡ Refused r → RefusedReading (record { reason = r; place = s .at }) ≡ resultOf m s
   turn-refused r found = refused-by (readEnvelope edition2005 (s .first) (drop (s .at) m)) refl r found
+
+  refused-at-by : (step : Step) → readEnvelope edition2005 (s .first) (drop (s .at) m) ≡ step → (r : Reason) (p : ℕ) → shown m step ≡ RefusedAt r p → RefusedReading (record { reason = r; place = p }) ≡ resultOf m s
+  refused-at-by (closed e left) is r p found = let z : _≡_ {A = ℕ} 0 1 = cc in absurd (omega arith)
+  refused-at-by (whole e) is r p found = let z : _≡_ {A = ℕ} 0 1 = cc in absurd (omega arith)
+  refused-at-by (refuse r′) is r p found = let z : _≡_ {A = ℕ} 0 1 = cc in absurd (omega arith)
+  refused-at-by (refuseAt r′ from) is r p found =
+      let why : r ≡ r′ = cc in
+      let place : p ≡ placeOf m from = cc in
+      (λ i. RefusedReading (record { reason = why i; place = place i })) ∙ sym (result-by (refuseAt r′ from) is)
+
+  pub turn-refused-at : (r : Reason) (p : ℕ) → shown m (readEnvelope edition2005 (s .first) (drop (s .at) m)) ≡ RefusedAt r p → RefusedReading (record { reason = r; place = p }) ≡ resultOf m s
+  turn-refused-at r p found = refused-at-by (readEnvelope edition2005 (s .first) (drop (s .at) m)) refl r p found

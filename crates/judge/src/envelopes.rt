@@ -58,6 +58,7 @@ fn turn(m: &[u8], s: State) -> Turn
     let found = judge_envelope(m, at, s.first);
     match found {
         Found::Refused(reason) => refused(reason, at),
+        Found::RefusedAt(reason, place) => refused(reason, place),
         Found::Whole(n) => Turn::Done(Reading::Accepted(Counts {
             envelopes: envelopes + 1,
             rows: rows + n,

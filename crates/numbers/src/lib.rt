@@ -25,6 +25,10 @@ pub fn number_of(reason: Reason) -> u32
         Reason::NoRecordSeparator => 12,
         Reason::TooManyRows => 13,
         Reason::NoRoom => 14,
+        Reason::BadFieldCount => 30,
+        Reason::FieldTooShort => 31,
+        Reason::FieldTooLong => 32,
+        Reason::BadFieldBytes => 33,
     }
 }
 

@@ -23,14 +23,13 @@ use Rattle.bodies.specs.Kinds.{everyFrom}
 use Rattle.bodies.proofs.RuleLaws.{fields-law}
 use Rattle.envelope.specs.declared.Found.{Found}
 use Rattle.envelope.specs.declared.Found.the-variants.{Closed}
-use Rattle.envelope.specs.Bodies.{bodyFound}
 use Rattle.walk.specs.declared.Stage.the-variants.{Piece}
 use Rattle.walk.specs.declared.Cursor.{Cursor}
 use Rattle.walk.specs.Cursors.{standing, plainRow, indicatorAt, nextCursor}
 use Rattle.reader.specs.Quick.{Framed, PassesTo, Noted, NotedOne, BodySwept}
 use Rattle.reader.specs.Transport.{FieldsOf, LastRight}
 use Rattle.reader.proofs.Framing.{byte-behind}
-use Rattle.reader.proofs.PieceTurns.{tally-none, no-gs, found-by, Passes, found-from, piece, piece-plain, piece-long, message-on, message-last}
+use Rattle.reader.proofs.PieceTurns.{tally-none, no-gs, found-by, bodyKept, kept-closed, Passes, found-from, piece, piece-plain, piece-long, message-on, message-last}
 use Rattle.reader.proofs.Sweeping.{piece-noted, piece-next, piece-last}
 
 -- Fields from an index on
@@ -91,8 +90,8 @@ version-whole v most is body =
     sym (fields-law v body)
     ∙ (λ j. leb 4 (none-before j) && ltb (none-before j) (sym is j) && everyFrom (field v) 0 (pieces GS body) && (eqb (none-before j) 4 || not (lastIsEmpty (pieces GS body))))
 
-fields-whole : (k : Kind) (most : ℕ) → FieldsOf k most → (m : Bytes) (before at : ℕ) → bodyFound k before m at ≡ fieldsFound k most m 0 before at
-unfolding bodyFound
+fields-whole : (k : Kind) (most : ℕ) → FieldsOf k most → (m : Bytes) (before at : ℕ) → bodyKept k before m at ≡ fieldsFound k most m 0 before at
+unfolding bodyKept
 fields-whole Fields02 most of m before at =
     let bs = drop at m in
     let n = seek RS bs in
@@ -111,7 +110,7 @@ fields-whole Text most of m before at = absurd of
 pub record SweepingFields (m : Bytes) (from : ℕ) (k : Kind) (most start before : ℕ) (notes : List ℕ) (at rows : ℕ) : Type 0 where
   pub inside : at < length m
   pub more : before ≤ rows
-  pub same : (n : ℕ) → bodyFound k n m start ≡ fieldsFound k most m (rows - before) (n + (rows - before)) at
+  pub same : (n : ℕ) → bodyKept k n m start ≡ fieldsFound k most m (rows - before) (n + (rows - before)) at
   pub noted : Noted m from notes rows (plainRow m Piece 1 at)
 
 pub fields-first : (m : Bytes) (from : ℕ) (k : Kind) (most start before : ℕ) (notes : List ℕ) → FieldsOf k most → start < length m → Noted m from notes before (plainRow m Piece 1 start) → SweepingFields m from k most start before notes start before
@@ -159,8 +158,9 @@ module _ (m : Bytes) (framed : Framed m) (from : ℕ) (k : Kind) (most start bef
         more = omega (arith, stands .more);
         inside = omega arith;
         closes = λ n.
-            stands .same n
+            kept-closed k n m start next (n + (rows + 1 - before))
+            (stands .same n
             ∙ message-last m at end (to .runs) (fieldsFrom (pieceTest k) most) (rows - before) (n + (rows - before)) last is
-            ∙ (λ j. Closed (sym behind j) (more-rows n j));
+            ∙ (λ j. Closed (sym behind j) (more-rows n j)));
         noted = subst (Noted m from new (rows + 1)) (piece-last m 1 at end (to .runs) is more ∙ ap (indicatorAt m) (sym behind)) noted-on;
       }

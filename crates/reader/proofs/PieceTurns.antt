@@ -21,10 +21,12 @@ use Rattle.leaves.proofs.Turns.{drop-step, seek-behind, tally-behind}
 use Rattle.pieces.specs.declared.Kind.{Kind}
 use Rattle.pieces.specs.declared.Kind.the-variants.{Fields02, Fields96, Segments03, Segments04, Elements05, Elements06, Text}
 use Rattle.pieces.specs.PieceTests.{pieceTest}
+use Rattle.bodies.specs.Kinds.{permittedOf, rulesOf, rowsOfBody}
 use Rattle.bodies.proofs.PieceLaws.{leb-same}
 use Rattle.envelope.specs.declared.Found.{Found}
 use Rattle.envelope.specs.declared.Found.the-variants.{Closed, Refused}
-use Rattle.envelope.specs.Bodies.{bodyFound}
+use Rattle.faults.specs.PieceFaults.{faultOf}
+use Rattle.envelope.specs.Bodies.{faultFound, bodyFound}
 use Rattle.walk.specs.Cursors.{runOf, plainRun}
 use Rattle.reader.specs.Quick.{RunsTo, PassesTo, ElementsOf}
 
@@ -56,6 +58,25 @@ no-gs p ok = free-of GS plain (plain-without GS (omega arith)) p ok
 -- what is found, by the three tests
 abbrev pub found-by : Bool → Bool → Bool → ℕ → ℕ → Found
 found-by ended permitted kept next rows = cond ended (cond permitted (cond kept (Closed next rows) (Refused BodyBreaksRules)) (Refused ByteNotPermitted)) (Refused NoRecordSeparator)
+
+-- what is found of a body, whatever its fault is if it breaks its rules: a fault's place tells where the body began, and the sweep asks only if it is closed
+unfoldable pub bodyKept : Kind → ℕ → Bytes → ℕ → Found
+bodyKept k before m at =
+    found-by (ltb (seek RS (drop at m)) (length (drop at m))) (every (permittedOf k) (take (seek RS (drop at m)) (drop at m))) (rulesOf k (take (seek RS (drop at m)) (drop at m)))
+    (at + seek RS (drop at m) + 1) (before + rowsOfBody k (take (seek RS (drop at m)) (drop at m)))
+
+pub kept-closed : (k : Kind) (before : ℕ) (m : Bytes) (at next rows : ℕ) → bodyKept k before m at ≡ Closed next rows → bodyFound k before m at ≡ Closed next rows
+unfolding bodyKept bodyFound
+kept-closed k before m at next rows closes =
+    by (ltb (seek RS (drop at m)) (length (drop at m))) (every (permittedOf k) (take (seek RS (drop at m)) (drop at m))) (rulesOf k (take (seek RS (drop at m)) (drop at m)))
+    _ (faultFound at (faultOf k (take (seek RS (drop at m)) (drop at m)))) closes
+  where
+    by : (ended permitted kept : Bool) (here fault : Found) → cond ended (cond permitted (cond kept here (Refused BodyBreaksRules)) (Refused ByteNotPermitted)) (Refused NoRecordSeparator) ≡ Closed next rows
+        → cond ended (cond permitted (cond kept here fault) (Refused ByteNotPermitted)) (Refused NoRecordSeparator) ≡ Closed next rows
+    by true true true here fault closes = closes
+    by true true false here fault closes = let z : _≡_ {A = ℕ} 0 1 = cc in absurd (omega arith)
+    by true false kept here fault closes = closes
+    by false permitted kept here fault closes = closes
 
 module _ (rule : ℕ → Bytes → Bool) where
   -- what is found of pieces from an index on that keep a rule together, in bytes that begin at an offset, given how long the body is
@@ -159,8 +180,8 @@ module _ (test : Bytes → Bool) (m : Bytes) (at end before : ℕ) (to : PassesT
 
 -- the same of a body of 05 or 06
 module _ (m : Bytes) (at end before f : ℕ) where
-  pub body-on : (k : Kind) → ElementsOf k f → PassesTo (pieceTest k 0) m at end → getD m end 0 ≡ GS → bodyFound k before m at ≡ bodyFound k (before + 1) m (end + 1)
-  unfolding bodyFound
+  pub body-on : (k : Kind) → ElementsOf k f → PassesTo (pieceTest k 0) m at end → getD m end 0 ≡ GS → bodyKept k before m at ≡ bodyKept k (before + 1) m (end + 1)
+  unfolding bodyKept
   body-on Elements05 of to is = elements-on element05 m at end before to is
   body-on Elements06 of to is = elements-on element06 m at end before to is
   body-on Fields02 of to is = absurd of
@@ -169,8 +190,8 @@ module _ (m : Bytes) (at end before f : ℕ) where
   body-on Segments04 of to is = absurd of
   body-on Text of to is = absurd of
 
-  pub body-last : (k : Kind) → ElementsOf k f → PassesTo (pieceTest k 0) m at end → getD m end 0 ≡ RS → bodyFound k before m at ≡ Closed (end + 1) (before + 1)
-  unfolding bodyFound
+  pub body-last : (k : Kind) → ElementsOf k f → PassesTo (pieceTest k 0) m at end → getD m end 0 ≡ RS → bodyKept k before m at ≡ Closed (end + 1) (before + 1)
+  unfolding bodyKept
   body-last Elements05 of to is = elements-last element05 m at end before to is
   body-last Elements06 of to is = elements-last element06 m at end before to is
   body-last Fields02 of to is = absurd of

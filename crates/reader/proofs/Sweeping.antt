@@ -12,24 +12,23 @@ use Rattle.pieces.specs.declared.Kind.{Kind}
 use Rattle.pieces.specs.declared.Kind.the-variants.{Fields02, Fields96, Segments03, Segments04, Elements05, Elements06, Text}
 use Rattle.pieces.specs.PieceTests.{pieceTest}
 use Rattle.envelope.specs.declared.Found.the-variants.{Closed}
-use Rattle.envelope.specs.Bodies.{bodyFound}
 use Rattle.walk.specs.declared.Stage.{Stage}
 use Rattle.walk.specs.declared.Stage.the-variants.{Piece}
 use Rattle.walk.specs.declared.Cursor.{Cursor}
 use Rattle.walk.specs.Cursors.{ahead, plainRun, standing, plainRow, indicatorAt, afterPiece, following, nextCursor}
 use Rattle.reader.specs.Quick.{Framed, RunsTo, PassesTo, Noted, Notable, NotedOne, ElementsOf, BodySwept}
 use Rattle.reader.proofs.Framing.{byte-behind}
-use Rattle.reader.proofs.PieceTurns.{body-on, body-last}
+use Rattle.reader.proofs.PieceTurns.{bodyKept, kept-closed, body-on, body-last}
 
 -- where the sweep stands: from here on the same is found as from the start, with the rows gone over
 pub record Sweeping (m : Bytes) (from : ℕ) (k : Kind) (f start before : ℕ) (notes : List ℕ) (at rows : ℕ) : Type 0 where
   pub inside : at < length m
   pub more : before ≤ rows
-  pub same : (n : ℕ) → bodyFound k n m start ≡ bodyFound k (n + (rows - before)) m at
+  pub same : (n : ℕ) → bodyKept k n m start ≡ bodyKept k (n + (rows - before)) m at
   pub noted : Noted m from notes rows (plainRow m Piece f at)
 
 pub sweeping-first : (m : Bytes) (from : ℕ) (k : Kind) (f start before : ℕ) (notes : List ℕ) → start < length m → Noted m from notes before (plainRow m Piece f start) → Sweeping m from k f start before notes start before
-sweeping-first m from k f start before notes inside noted = record { inside = inside; more = omega arith; same = λ n. let none : n ≡ n + (before - before) = omega arith in ap (λ x. bodyFound k x m start) none; noted = noted }
+sweeping-first m from k f start before notes inside noted = record { inside = inside; more = omega arith; same = λ n. let none : n ≡ n + (before - before) = omega arith in ap (λ x. bodyKept k x m start) none; noted = noted }
 
 -- formats of elements are small numbers
 pub elements-known : (k : Kind) (f : ℕ) → ElementsOf k f → f ≤ 99
@@ -89,7 +88,7 @@ module _ (m : Bytes) (framed : Framed m) (from : ℕ) (k : Kind) (f start before
         inside = more;
         more = omega (arith, stands .more);
         same = λ n. let one-more : n + (rows - before) + 1 ≡ n + (rows + 1 - before) = omega (arith, stands .more) in
-            stands .same n ∙ body-on m at end (n + (rows - before)) f k of to is ∙ ap (λ x. bodyFound k x m (end + 1)) one-more;
+            stands .same n ∙ body-on m at end (n + (rows - before)) f k of to is ∙ ap (λ x. bodyKept k x m (end + 1)) one-more;
         noted = subst (Noted m from new (rows + 1)) (piece-next m f at end (to .runs) is more) noted-on;
       }
 
@@ -100,6 +99,6 @@ module _ (m : Bytes) (framed : Framed m) (from : ℕ) (k : Kind) (f start before
         more = omega (arith, stands .more);
         inside = more;
         closes = λ n. let one-more : n + (rows - before) + 1 ≡ n + (rows + 1 - before) = omega (arith, stands .more) in
-            stands .same n ∙ body-last m at end (n + (rows - before)) f k of to is ∙ ap (Closed (end + 1)) one-more;
+            kept-closed k n m start (end + 1) (n + (rows + 1 - before)) (stands .same n ∙ body-last m at end (n + (rows - before)) f k of to is ∙ ap (Closed (end + 1)) one-more);
         noted = subst (Noted m from new (rows + 1)) (piece-last m f at end (to .runs) is more) noted-on;
       }

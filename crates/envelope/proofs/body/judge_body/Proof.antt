@@ -1,4 +1,4 @@
--- `judge_body` is `bodyFound`: 12, then 10, then 11.
+-- `judge_body` is `bodyFound`: 12, then 10, then the fault of a body that breaks its rules.
 use mathlib.Core.Path.{sym, ap, _∙_}
 use Prim.Native.Nat.{_-_, _+_}
 use borrow.Author.Tests.{not-true, not-false}
@@ -42,12 +42,16 @@ returns-2 c =
 rules-hold-requires : tie.Need-rules-hold-requires
 rules-hold-requires c κs = search needs
 
+judge-fault-requires : tie.Need-judge-fault-requires
+judge-fault-requires c κs = search needs
+
 returns-3 : tie.Need-returns-3
 returns-3 c =
-    let args = c .before .before .before .before .before .before .before .before .before .args in
-    let found = c .before .before .before .before .before .before .before .find-far in
-    body-rule (args .k) (args .before) (args .m .now) (args .at) (found .result) (c .before .before .before .before .before .before .before .before .before .pre .1) (found .ensures) (c .before .before .before .before .before .before .if1 .left)
-    (sym (rw (c .before .before .before .before .permitted .ensures) at (c .before .before .before .all-in .ensures)) ∙ not-false _ (c .before .before .if2 .left)) (sym (c .before .rules-hold .ensures) ∙ not-true _ (c .if3 .taken))
+    let args = c .before .before .before .before .before .before .before .before .before .before .args in
+    let found = c .before .before .before .before .before .before .before .before .find-far in
+    c .judge-fault .ensures
+    ∙ body-rule (args .k) (args .before) (args .m .now) (args .at) (found .result) (c .before .before .before .before .before .before .before .before .before .before .pre .1) (found .ensures) (c .before .before .before .before .before .before .before .if1 .left)
+    (sym (rw (c .before .before .before .before .before .permitted .ensures) at (c .before .before .before .before .all-in .ensures)) ∙ not-false _ (c .before .before .before .if2 .left)) (sym (c .before .before .rules-hold .ensures) ∙ not-true _ (c .before .if3 .taken))
 
 add-t7 : tie.Need-add-t7
 add-t7 c = search needs
@@ -55,8 +59,8 @@ add-t7 c = search needs
 rows-in-requires : tie.Need-rows-in-requires
 rows-in-requires c κs = search needs
 
-add-t17 : tie.Need-add-t17
-add-t17 c =
+add-t16 : tie.Need-add-t16
+add-t16 c =
     let is = c .rows-in .ensures in
     let args = c .before .before .before .before .before .before .before .before .before .before .args in
     let few = rows-of-part (args .k) (args .m .now) (args .at) (c .before .before .before .before .before .before .before .before .find-far .result - args .at) in
@@ -83,8 +87,9 @@ judge-body-spec =
     all-in-requires
     returns-2
     rules-hold-requires
+    judge-fault-requires
     returns-3
     add-t7
     rows-in-requires
-    add-t17
+    add-t16
     returns-4)
