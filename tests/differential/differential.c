@@ -177,9 +177,9 @@ static const struct {
     const char *name;
     unsigned weight;
 } case_kinds[CASE_KINDS] = {
-    {"good messages, read", 170},
-    {"good messages changed, read", 200},
-    {"near misses of a known number, read", 200},
+    {"good messages, read", 150},
+    {"good messages changed, read", 180},
+    {"near misses of a known number, read", 240},
     {"lengths 4,095 to 4,098, read", 8},
     {"1,023 to 1,026 rows, read", 8},
     {"random bytes, read", 84},
@@ -193,12 +193,22 @@ static uint64_t run_seed;
 static uint64_t case_number;
 static unsigned case_kind;
 static uint64_t cases_run[CASE_KINDS];
-static uint64_t numbers_seen[23];
 static uint64_t reads, writes, parts, written_back, read_back;
+
+enum { NUMBERS = 34, FIELDS = 15 };
+
+static uint64_t numbers_seen[NUMBERS];
+static uint64_t faults_made[3][FIELDS]; /* 31, 32 and 33, by the field that has it */
+
+/* Refusals of a reading are 1 to 14 and 30 to 33, of a writing 20 to 22. */
+static bool is_answer(unsigned number)
+{
+    return number <= 14 || (number >= 20 && number <= 22) || (number >= 30 && number <= 33);
+}
 
 static void see_number(uint32_t number)
 {
-    if (number < 23) {
+    if (number < NUMBERS) {
         numbers_seen[number]++;
     }
 }
@@ -600,13 +610,13 @@ enum { VERSION_02, VERSION_96 };
 /* Least and greatest lengths of fields 1 to 15 by the table of document 01. */
 static size_t least_of_field(unsigned version, unsigned field)
 {
-    static const uint8_t least[15] = {3, 3, 1, 1, 2, 1, 3, 1, 3, 1, 1, 1, 1, 2, 1};
+    static const uint8_t least[FIELDS] = {3, 3, 1, 1, 2, 1, 3, 1, 3, 1, 1, 1, 1, 2, 1};
     return version == VERSION_02 && field == 1 ? 0 : least[field - 1];
 }
 
 static size_t greatest_of_field(unsigned field)
 {
-    static const uint8_t greatest[15] = {11, 3, 3, 20, 4, 10, 3, 30, 9, 10, 1, 35, 35, 2, 35};
+    static const uint8_t greatest[FIELDS] = {11, 3, 3, 20, 4, 10, 3, 30, 9, 10, 1, 35, 35, 2, 35};
     return greatest[field - 1];
 }
 
@@ -648,19 +658,23 @@ static void put_header_01(label *l, unsigned version)
     l->body = l->length;
 }
 
-/* Good fields, except that one may be given another length. */
-static void put_fields(label *l, unsigned version, unsigned count, unsigned odd, size_t odd_length)
+/* A later field may be empty, unless it is the last. */
+static void put_good_field(label *l, unsigned version, unsigned field, bool is_last)
+{
+    size_t length = some_length(least_of_field(version, field), greatest_of_field(field));
+    if (field > 5 && !is_last && one_in(2)) {
+        length = 0;
+    }
+    put_field(l, field, length);
+}
+
+static void put_good_fields(label *l, unsigned version, unsigned count)
 {
     for (unsigned field = 1; field <= count; field++) {
         if (field > 1) {
             put(l, GS);
         }
-        unsigned shape = field > 15 ? 15 : field;
-        size_t length = some_length(least_of_field(version, shape), greatest_of_field(shape));
-        if (field > 5 && field < count && one_in(2)) {
-            length = 0;
-        }
-        put_field(l, field, field == odd ? odd_length : length);
+        put_good_field(l, version, field, field == count);
     }
 }
 
@@ -668,7 +682,7 @@ static void good_01(label *l)
 {
     unsigned version = (unsigned)below(2);
     put_header_01(l, version);
-    put_fields(l, version, (unsigned)between(5, fields_of(version)), 0, 0);
+    put_good_fields(l, version, (unsigned)between(5, fields_of(version)));
     end_envelope(l);
 }
 
@@ -1217,7 +1231,7 @@ static void miss_8(label *l, size_t *place)
             l->bytes[at] = (uint8_t)(l->bytes[at] ^ (1u << below(8)));
             break;
         }
-        put_fields(l, VERSION_96, 5, 0, 0);
+        put_good_fields(l, VERSION_96, 5);
         put_tail(l);
         break;
     }
@@ -1381,13 +1395,124 @@ static uint8_t byte_not_permitted(unsigned format)
     }
 }
 
+/* Whether a field can be too short (31), too long (32) or of wrong bytes (33). A
+ * later field that is empty isn't short. */
+static bool can_have(unsigned version, unsigned field, uint32_t fault)
+{
+    switch (fault) {
+    case 31: return least_of_field(version, field) > (field > 5 ? 1u : 0u);
+    case 32: return true;
+    default: return field == 2 || field == 7 || field == 9 || field == 11;
+    }
+}
+
+/* Where the length is wrong, the bytes may be too: that must not matter. */
+static void put_wrong_length(label *l, unsigned field, size_t length)
+{
+    if (one_in(2)) {
+        put_field(l, field, length);
+    } else {
+        put_text(l, length);
+    }
+}
+
+static void put_wrong_bytes(label *l, unsigned field)
+{
+    static const char *const wrong[] = {
+        "12345/1", "1/12345", "/12", "12/", "123", "1-2", "1//2", "1/2/3", "a/1",
+        "1/a", "1 /2", "///", "123456789", "1234:1234", "/2345678/", "1234/123a"};
+    size_t start = l->length;
+    switch (field) {
+    case 9: put_string(l, wrong[below(16)]); break;
+    case 11: put(l, one_of("XynMOZ 01")); break;
+    default: /* the digits of 2 and 7 */
+        put_digits(l, 3);
+        l->bytes[start + below(3)] = one_of("/:A -o");
+        break;
+    }
+}
+
+static void put_faulty_field(label *l, unsigned version, unsigned field, uint32_t fault)
+{
+    size_t least = least_of_field(version, field), greatest = greatest_of_field(field);
+    switch (fault) {
+    case 31: put_wrong_length(l, field, some_length(field > 5 ? 1 : 0, least - 1)); break;
+    case 32: put_wrong_length(l, field, greatest + (one_in(2) ? 1 : between(1, 20))); break;
+    default: put_wrong_bytes(l, field); break;
+    }
+}
+
+/* A good field, or one that has any fault of its own. */
+static void put_any_field(label *l, unsigned version, unsigned field, bool is_last)
+{
+    uint32_t fault = (uint32_t)between(31, 33);
+    if (can_have(version, field, fault) && one_in(2)) {
+        put_faulty_field(l, version, field, fault);
+    } else {
+        put_good_field(l, version, field, is_last);
+    }
+}
+
+/* So many fields, right or wrong, and the last may be made empty. Those that no
+ * version has are like the fifteenth. */
+static void put_any_fields(label *l, unsigned version, unsigned count, bool last_is_empty)
+{
+    bool are_good = one_in(3);
+    for (unsigned field = 1; field <= count; field++) {
+        bool is_last = field == count;
+        unsigned like = field > FIELDS ? FIELDS : field;
+        if (field > 1) {
+            put(l, GS);
+        }
+        if (is_last && last_is_empty) {
+            break;
+        }
+        if (are_good) {
+            put_good_field(l, version, like, is_last);
+        } else {
+            put_any_field(l, version, like, is_last);
+        }
+    }
+}
+
+static void put_wrong_element(label *l, unsigned format)
+{
+    static const char *const wrong_05[] = {"", "1", "12", "A12", "1A2", "AB", " 12", "/12", "1:3"};
+    static const char *const wrong_06[] = {
+        "", "1", "A", "12A", "123", "1234A1", "a1", "1a1", " A1", "123A", "1@2", "[A1", "0000A1"};
+    put_string(l, format == 5 ? wrong_05[below(9)] : wrong_06[below(13)]);
+}
+
+/* A good envelope, or in 01, 05 and 06 one whose body may break the rules: what
+ * stands before those faults isn't moved by them. */
+static void any_envelope(label *l, unsigned format)
+{
+    if ((format != 1 && format != 5 && format != 6) || one_in(2)) {
+        good_envelope(l, format);
+        return;
+    }
+    if (format == 1) {
+        unsigned version = (unsigned)below(2);
+        put_header_01(l, version);
+        put_any_fields(l, version, (unsigned)between(1, 17), one_in(4));
+    } else {
+        put_indicator(l, format);
+        put(l, GS);
+        l->body = l->length;
+        put_wrong_element(l, format);
+        put(l, GS);
+        put_element(l, format);
+    }
+    end_envelope(l);
+}
+
 static void miss_10(label *l, size_t *place)
 {
     good_prefix(l, below(3));
     *place = l->length;
     static const uint8_t formats[] = {3, 4, 5, 6, 7};
     unsigned format = l->envelopes == 0 && one_in(2) ? (unsigned)between(1, 2) : formats[below(5)];
-    good_envelope(l, format);
+    any_envelope(l, format);
     size_t end = format == 2 ? l->length : l->length - 1;
     if (one_in(2) && end > l->body) {
         l->bytes[between(l->body, end - 1)] = byte_not_permitted(format);
@@ -1396,74 +1521,6 @@ static void miss_10(label *l, size_t *place)
     }
     if (format != 2 || one_in(2)) {
         put_tail(l);
-    }
-}
-
-static void miss_11_in_01(label *l)
-{
-    unsigned version = (unsigned)below(2);
-    unsigned most = fields_of(version);
-    unsigned field;
-    put_header_01(l, version);
-    switch (below(9)) {
-    case 0: put_fields(l, version, (unsigned)between(0, 4), 0, 0); break;
-    case 6: /* a field that must be there is empty */
-        field = (unsigned)between(version == VERSION_02 ? 2 : 1, 5);
-        put_fields(l, version, (unsigned)between(5, most), field, 0);
-        break;
-    case 1: /* too many, the last of them empty or not */
-        field = most + (unsigned)some_length(1, 3);
-        put_fields(l, version, field, one_in(2) ? field : 0, 0);
-        break;
-    case 2: { /* the last field is empty */
-        unsigned count = (unsigned)between(6, most);
-        put_fields(l, version, count, count, 0);
-        break;
-    }
-    case 3:
-    case 4: /* one beyond */
-        field = (unsigned)between(1, most);
-        put_fields(l, version, (unsigned)between(field < 5 ? 5 : field, most), field,
-                   greatest_of_field(field) + 1);
-        break;
-    case 5: /* one short, where that isn't an empty field that may be */
-        do {
-            field = (unsigned)between(1, most);
-        } while (least_of_field(version, field) == 0);
-        {
-            size_t length = least_of_field(version, field) - 1;
-            unsigned count = (unsigned)between(field < 5 ? 5 : field, most);
-            if (length == 0 && field > 5) {
-                count = field;
-            }
-            put_fields(l, version, count, field, length);
-        }
-        break;
-    default: { /* right lengths, wrong bytes */
-        static const uint8_t fields[] = {2, 7, 9, 11};
-        field = fields[below(4)];
-        unsigned count = (unsigned)between(field < 5 ? 5 : field, most);
-        put_fields(l, version, count, field, field == 9 ? between(3, 9) : greatest_of_field(field));
-        size_t row = l->row_count - (count - field) - 1;
-        size_t start = l->rows[4 * row + 2], length = l->rows[4 * row + 3];
-        if (field == 9) {
-            static const char *const wrong[] = {
-                "12345/1", "1/12345", "/12", "12/", "123", "1-2",
-                "1//2", "1/2/3", "a/1", "1/a", "1 /2", "///"};
-            const char *text = wrong[below(12)];
-            while (length-- > 0) {
-                remove_byte(l, start);
-            }
-            for (size_t i = 0; text[i] != 0; i++) {
-                insert_byte(l, start + i, (uint8_t)text[i]);
-            }
-        } else if (field == 11) {
-            l->bytes[start] = one_of("XynMOZ 01");
-        } else {
-            l->bytes[start + below(3)] = one_of("/:A -o");
-        }
-        break;
-    }
     }
 }
 
@@ -1503,21 +1560,23 @@ static void miss_11_in_03_04(label *l, unsigned format)
     }
 }
 
-static void miss_11_in_05_06(label *l, unsigned format)
+/* Good elements, then a wrong one, whose start is the place; behind it either. */
+static void miss_11_in_05_06(label *l, unsigned format, size_t *place)
 {
-    static const char *const wrong_05[] = {"", "1", "12", "A12", "1A2", "AB", " 12", "/12", "1:3"};
-    static const char *const wrong_06[] = {
-        "", "1", "A", "12A", "123", "1234A1", "a1", "1a1", " A1", "123A", "1@2", "[A1", "0000A1"};
     put_indicator(l, format);
     put(l, GS);
     l->body = l->length;
-    size_t count = between(1, 3), odd = below(count);
+    size_t count = one_in(16) ? between(60, 150) : between(1, 5);
+    size_t odd = some_length(0, count - 1);
     for (size_t i = 0; i < count; i++) {
         if (i > 0) {
             put(l, GS);
         }
         if (i == odd) {
-            put_string(l, format == 5 ? wrong_05[below(9)] : wrong_06[below(13)]);
+            *place = l->length;
+        }
+        if (i == odd || (i > odd && one_in(2))) {
+            put_wrong_element(l, format);
         } else {
             put_element(l, format);
         }
@@ -1529,16 +1588,13 @@ static void miss_11(label *l, size_t *place)
     bool is_first = !one_in(3);
     good_prefix(l, is_first ? 0 : between(1, 2));
     *place = l->length;
-    unsigned format = (unsigned)between(is_first ? 2 : 3, 6);
-    if (is_first && one_in(2)) {
-        format = 1;
-    }
+    static const uint8_t formats[] = {3, 4, 5, 5, 6, 6};
+    unsigned format = is_first && one_in(8) ? 2 : formats[below(6)];
     switch (format) {
-    case 1: miss_11_in_01(l); break;
     case 2: put_indicator(l, 2); return;
     case 3:
     case 4: miss_11_in_03_04(l, format); break;
-    default: miss_11_in_05_06(l, format); break;
+    default: miss_11_in_05_06(l, format, place); break;
     }
     put(l, RS);
     put_tail(l);
@@ -1549,7 +1605,7 @@ static void miss_12(label *l, size_t *place)
     good_prefix(l, below(3));
     *place = l->length;
     static const uint8_t formats[] = {3, 4, 5, 6, 7};
-    good_envelope(l, l->envelopes == 0 && one_in(3) ? 1 : formats[below(5)]);
+    any_envelope(l, l->envelopes == 0 && one_in(3) ? 1 : formats[below(5)]);
     l->length = one_in(2) ? l->length - 1 : some_length(l->body, l->length - 1);
     size_t tail = below(5);
     while (tail-- > 0) {
@@ -1557,15 +1613,97 @@ static void miss_12(label *l, size_t *place)
     }
 }
 
+/* A wrong count, or a right one and an empty last field past the fifth. What
+ * other faults the fields have doesn't matter. */
+static void miss_30(label *l, size_t *place)
+{
+    unsigned version = (unsigned)below(2);
+    unsigned most = fields_of(version);
+    open_message(l);
+    put_header_01(l, version);
+    *place = l->length;
+    switch (below(8)) {
+    case 0:
+    case 1: /* too few; a single one that is empty is an empty body */
+        put_any_fields(l, version, (unsigned)between(1, 4), one_in(3));
+        break;
+    case 2:
+    case 3: /* too many */
+        put_any_fields(l, version, most + (unsigned)some_length(1, 3), one_in(3));
+        break;
+    case 4: /* far too many, and 13 doesn't come before 30 */
+        for (size_t separators = some_length(most, 1100); separators > 0; separators--) {
+            put(l, GS);
+        }
+        break;
+    default:
+        put_any_fields(l, version, (unsigned)between(6, most), true);
+        *place = l->length;
+        break;
+    }
+    put(l, RS);
+    put_tail(l);
+}
+
+/* Good fields, then one with the fault, whose start is the place; those behind
+ * it may have any fault. The count is right and the last field isn't empty, unless
+ * it is the fifth: then it is too short. */
+static void miss_field(label *l, size_t *place, uint32_t fault)
+{
+    unsigned version = (unsigned)below(2);
+    unsigned most = fields_of(version);
+    unsigned odd;
+    do {
+        odd = (unsigned)between(1, most);
+    } while (!can_have(version, odd, fault));
+    unsigned count = (unsigned)some_length(odd < 5 ? 5 : odd, most);
+    open_message(l);
+    put_header_01(l, version);
+    for (unsigned field = 1; field <= count; field++) {
+        if (field > 1) {
+            put(l, GS);
+        }
+        if (field < odd) {
+            put_good_field(l, version, field, false);
+        } else if (field > odd) {
+            put_any_field(l, version, field, field == count);
+        } else {
+            *place = l->length;
+            put_faulty_field(l, version, field, fault);
+        }
+    }
+    put(l, RS);
+    put_tail(l);
+    faults_made[fault - 31][odd - 1]++;
+}
+
+static void miss_31(label *l, size_t *place)
+{
+    miss_field(l, place, 31);
+}
+
+static void miss_32(label *l, size_t *place)
+{
+    miss_field(l, place, 32);
+}
+
+static void miss_33(label *l, size_t *place)
+{
+    miss_field(l, place, 33);
+}
+
 static void case_near_miss_read(void)
 {
-    static void (*const misses[])(label *, size_t *) = {
-        miss_2, miss_3, miss_4, miss_5, miss_6, miss_7, miss_8, miss_9, miss_10, miss_11, miss_12};
-    static const uint8_t draws[] = {2, 3, 4, 5, 6, 7, 8, 8, 8, 9, 9, 10, 10, 11, 11, 11, 11, 11, 12};
+    static void (*const misses[NUMBERS])(label *, size_t *) = {
+        [2] = miss_2, [3] = miss_3, [4] = miss_4, [5] = miss_5, [6] = miss_6,
+        [7] = miss_7, [8] = miss_8, [9] = miss_9, [10] = miss_10, [11] = miss_11,
+        [12] = miss_12, [30] = miss_30, [31] = miss_31, [32] = miss_32, [33] = miss_33};
+    static const uint8_t draws[] = {2, 3, 4, 5, 6, 7, 8, 8, 8, 9, 9, 10, 10, 11, 11, 11, 12,
+                                    30, 30, 30, 31, 31, 32, 32, 33, 33};
     label *l = &the_label;
     uint32_t number = draws[below(sizeof draws)];
     size_t place = 0;
-    misses[number - 2](l, &place);
+    misses[number](l, &place);
     knowledge known = known_refusal(number, place);
     compare_read(l->bytes, l->length, one_in(2) ? between(0, 40) : 400, &known);
 }
@@ -1716,9 +1854,12 @@ static void case_row_limit_read(void)
 static void random_message(label *l)
 {
     open_message(l);
-    size_t way = below(5);
+    size_t way = below(6);
     if (way == 0) {
         l->length = 0;
+    }
+    if (way == 5) {
+        put_header_01(l, (unsigned)below(2));
     }
     size_t length = one_in(3) ? below(8) : below(60);
     while (length-- > 0) {
@@ -1727,8 +1868,12 @@ static void random_message(label *l)
         case 1: put(l, any_byte()); break;
         case 2: put(l, one_of("\x04\x1C\x1D\x1E\x1F" "0123456789AB")); break;
         case 3: put(l, one_of("\x1D\x1E\x1E\x04" "000567A1")); break;
+        case 5: put(l, one_of("\x1D\x1D\x1D" "018/YNA")); break; /* fields */
         default: put(l, odd_byte()); break;
         }
+    }
+    if (way == 5) {
+        put_string(l, "\x1E\x04");
     }
     if (way == 4) { /* an indicator where it is due */
         if (l->length > 6) {
@@ -2157,6 +2302,24 @@ static bool reference_allows_null(void)
            reference_part_of(NULL, 0, 0).length == 0;
 }
 
+/* Answers whether each field had each fault that it can have in some version. */
+static bool print_faults_made(void)
+{
+    bool all_made = true;
+    printf("how often fields 1 to 15 were made the faulty one:\n");
+    for (uint32_t fault = 31; fault <= 33; fault++) {
+        printf("%10u:", fault);
+        for (unsigned field = 1; field <= FIELDS; field++) {
+            uint64_t made = faults_made[fault - 31][field - 1];
+            bool can = can_have(VERSION_02, field, fault) || can_have(VERSION_96, field, fault);
+            printf(" %llu", (unsigned long long)made);
+            all_made = all_made && (made > 0 || !can);
+        }
+        putchar('\n');
+    }
+    return all_made;
+}
+
 static bool parse(const char *text, uint64_t *value)
 {
     char *end;
@@ -2197,15 +2360,18 @@ int main(int argc, char **argv)
            (unsigned long long)written_back, (unsigned long long)read_back);
     printf("how often each number was answered:\n");
     bool all_seen = true;
-    for (unsigned number = 0; number <= 22; number++) {
-        if (number >= 15 && number < 20) {
-            continue;
+    for (unsigned number = 0; number < NUMBERS; number++) {
+        if (is_answer(number)) {
+            printf("%10llu %u\n", (unsigned long long)numbers_seen[number], number);
+            all_seen = all_seen && numbers_seen[number] > 0;
         }
-        printf("%10llu %u\n", (unsigned long long)numbers_seen[number], number);
-        all_seen = all_seen && numbers_seen[number] > 0;
     }
     if (!all_seen && cases >= 100000) {
         printf("DIFFERENCE: a number was never answered\n");
+        return 1;
+    }
+    if (!print_faults_made() && cases >= 100000) {
+        printf("DIFFERENCE: a field never had a fault that it can have\n");
         return 1;
     }
     printf("no difference\n");

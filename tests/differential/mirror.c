@@ -30,6 +30,18 @@
  * SPOILT 26: every good message of format 02 is refused
  * SPOILT 27: no rows at all are written as an empty message
  * SPOILT 28: the EOT is looked for behind the message
+ * SPOILT 29: a field's bytes are judged before its length
+ * SPOILT 30: the number of fields is judged after the fields
+ * SPOILT 31: the place of an empty last field is the first field's
+ * SPOILT 32: the place of a faulty field is the indicator's
+ * SPOILT 33: the place of a faulty field is behind the separator that ends it
+ * SPOILT 34: the last faulty field is answered, not the first
+ * SPOILT 35: 11 is answered for a faulty field
+ * SPOILT 36: the place of 11 in format 06 is the indicator's
+ * SPOILT 37: the place of 11 in format 06 is the last faulty element's
+ * SPOILT 38: a faulty field stands before 10
+ * SPOILT 39: an empty fifth field at the end is a wrong number of fields
+ * SPOILT 40: a fifteenth field of version 96 is too long
  */
 #include "zielorad.h"
 
@@ -49,6 +61,167 @@ static zielorad_reading refusal(uint32_t number, uint32_t place)
     zielorad_reading answer = {number, place, 0, 0};
     return answer;
 }
+
+/* ---- Faults of fields and elements (document 02, No. 1) ---- */
+
+/* Format 01 stands only first, so these are fixed. */
+enum { INDICATOR_01 = 4, VERSION_01 = 7, FIELDS_01 = 9 };
+
+static size_t end_of_piece(const uint8_t *message, size_t start)
+{
+    size_t end = start;
+    while (message[end] != GS && message[end] != RS) {
+        end++;
+    }
+    return end;
+}
+
+/* The reference's number for a message of three parts. No piece is judged
+ * otherwise for what it has behind its first hundred bytes, so these are taken. */
+static uint32_t number_of(const char *front, const uint8_t *piece, size_t length, const char *behind)
+{
+    static uint32_t rows[AMPLE];
+    uint8_t message[400];
+    size_t taken = length < 100 ? length : 100, at = strlen(front);
+    memcpy(message, front, at);
+    memcpy(message + at, piece, taken);
+    at += taken;
+    memcpy(message + at, behind, strlen(behind));
+    return reference_read(message, at + strlen(behind), rows, AMPLE).number;
+}
+
+/* The fault that a field has on its own, among good ones: 31 to 33, or 0. */
+static uint32_t fault_of_field(const uint8_t *version, unsigned field, const uint8_t *piece,
+                               size_t length)
+{
+    static const char *const good[14] = {"91521", "840", "021", "1Z", "FDEG", "S", "189", "S",
+                                         "1/1", "5", "N", "S", "C", "CA"};
+    char front[100] = "[)>\x1E" "01\x1D", behind[100] = "";
+    if (field > 15 || (field > 5 && length == 0)) {
+        return 0;
+    }
+    strncat(front, (const char *)version, 2);
+    for (unsigned i = 1; i < field; i++) {
+        strcat(strcat(front, good[i - 1]), "\x1D");
+    }
+    for (unsigned i = field + 1; i <= 14; i++) {
+        strcat(strcat(behind, "\x1D"), good[i - 1]);
+    }
+    uint32_t number = number_of(front, piece, length, strcat(behind, "\x1E\x04"));
+    return number >= 31 && number <= 33 ? number : 0;
+}
+
+/* The first or the last field that has a fault on its own, whatever the count
+ * is; if none has, the answer given. */
+static zielorad_reading faulty_field(const uint8_t *message, bool wants_last,
+                                     zielorad_reading answer)
+{
+    bool is_found = false;
+    size_t at = FIELDS_01;
+    for (unsigned field = 1;; field++) {
+        size_t end = end_of_piece(message, at);
+        uint32_t fault = fault_of_field(message + VERSION_01, field, message + at, end - at);
+        if (fault != 0 && (!is_found || wants_last)) {
+            answer = refusal(fault, (uint32_t)at);
+            is_found = true;
+        }
+        if (message[end] == RS) {
+            return answer;
+        }
+        at = end + 1;
+    }
+}
+
+static size_t last_field(const uint8_t *message)
+{
+    size_t last = FIELDS_01, end = end_of_piece(message, last);
+    while (message[end] != RS) {
+        last = end + 1;
+        end = end_of_piece(message, last);
+    }
+    return last;
+}
+
+/* The number of the field that starts at a place, counted from 1. */
+static unsigned field_at(const uint8_t *message, size_t place)
+{
+    unsigned field = 1;
+    for (size_t i = FIELDS_01; i < place; i++) {
+        field += message[i] == GS;
+    }
+    return field;
+}
+
+/* A refusal of format 01's fields, altered. */
+static zielorad_reading fields_spoilt(const uint8_t *message, zielorad_reading answer)
+{
+    bool is_field = answer.number != 30;
+    size_t end = end_of_piece(message, answer.place), last = last_field(message);
+    unsigned field = field_at(message, answer.place);
+
+    if (SPOILT == 29 && is_field && (field == 2 || field == 7)) {
+        for (size_t i = answer.place; i < end; i++) {
+            if (message[i] < '0' || message[i] > '9') {
+                answer.number = 33;
+            }
+        }
+    }
+    if (SPOILT == 30 && !is_field) {
+        return faulty_field(message, false, answer);
+    }
+    if (SPOILT == 31 && !is_field) {
+        answer.place = FIELDS_01;
+    }
+    if (SPOILT == 32 && is_field) {
+        answer.place = INDICATOR_01;
+    }
+    if (SPOILT == 33 && is_field) {
+        answer.place = (uint32_t)end + 1;
+    }
+    if (SPOILT == 34 && is_field) {
+        return faulty_field(message, true, answer);
+    }
+    if (SPOILT == 35 && is_field) {
+        return refusal(11, INDICATOR_01);
+    }
+    if (SPOILT == 39 && is_field && field == 5 && answer.place == last && last == end) {
+        answer.number = 30;
+    }
+    if (SPOILT == 40 && message[VERSION_01] == '9' && field_at(message, last) == 15 &&
+        message[last] != RS) {
+        return faulty_field(message, false, refusal(32, (uint32_t)last));
+    }
+    return answer;
+}
+
+/* An element's fault in format 06, altered; other formats' 11 is left. */
+static zielorad_reading elements_spoilt(const uint8_t *message, zielorad_reading answer)
+{
+    /* No RS stands between an indicator and the faulty element. */
+    size_t indicator = answer.place;
+    while (message[indicator - 1] != RS) {
+        indicator--;
+    }
+    if (message[indicator + 1] != '6') {
+        return answer;
+    }
+    if (SPOILT == 36) {
+        answer.place = (uint32_t)indicator;
+    }
+    if (SPOILT == 37) {
+        size_t at = answer.place, end = end_of_piece(message, at);
+        while (message[end] != RS) {
+            at = end + 1;
+            end = end_of_piece(message, at);
+            if (number_of("[)>\x1E" "06\x1D", message + at, end - at, "\x1E\x04") != 0) {
+                answer.place = (uint32_t)at;
+            }
+        }
+    }
+    return answer;
+}
+
+/* ---- The reader ---- */
 
 /* A reading with ample room, altered as an error of the reader would. */
 static zielorad_reading read_spoilt(const uint8_t *message, size_t length, uint32_t *rows)
@@ -100,6 +273,15 @@ static zielorad_reading read_spoilt(const uint8_t *message, size_t length, uint3
         read = reference_read(copy, length, rows, AMPLE);
         zielorad_reading wrapped = {read.number, read.place, read.envelopes, read.rows};
         return wrapped;
+    }
+    if (SPOILT == 38 && read.number == 10 && read.place == INDICATOR_01 && message[5] == '1') {
+        return faulty_field(message, false, answer);
+    }
+    if (read.number >= 30) {
+        return fields_spoilt(message, answer);
+    }
+    if (read.number == 11) {
+        return elements_spoilt(message, answer);
     }
     if (answer.number != 0) {
         return answer;

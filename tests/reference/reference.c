@@ -1,4 +1,5 @@
-/* The reference: document 01 in plain C, in the order of its clauses. */
+/* The reference: document 01 in plain C, in the order of its clauses. What
+ * document 02 says stands where it belongs, with the request's number. */
 #include "reference.h"
 
 #include <stdbool.h>
@@ -256,9 +257,10 @@ static bool element_06_stands(const uint8_t *message, size_t start, size_t end)
     return at < end && is_capital(message[at]) && at + 1 < end;
 }
 
-/* "05, 06: elements split by GS." */
+/* "05, 06: elements split by GS." If they don't stand, *place is "the first
+ * faulty element's start" (02, No. 1); an empty body is one empty element. */
 static bool elements_stand(const uint8_t *message, size_t start, size_t end,
-                           uint32_t format, row_list *rows)
+                           uint32_t format, row_list *rows, size_t *place)
 {
     size_t at = start;
     for (;;) {
@@ -266,6 +268,7 @@ static bool elements_stand(const uint8_t *message, size_t start, size_t end,
         bool stands = format == 5 ? element_05_stands(message, at, element_end)
                                   : element_06_stands(message, at, element_end);
         if (!stands) {
+            *place = at;
             return false;
         }
         add_row(rows, KIND_FIELD, format, at, element_end);
@@ -314,15 +317,9 @@ static bool is_n_of_x(const uint8_t *message, size_t start, size_t end)
            all_digits(message, start, slash) && all_digits(message, slash + 1, end);
 }
 
-/* The length and bytes of a field that isn't omitted; its bytes are known to be plain. */
-static bool field_stands(const uint8_t *message, size_t start, size_t end,
-                         size_t version, size_t number)
+/* The bytes of a field whose length is right and that are known to be plain. */
+static bool field_bytes_stand(const uint8_t *message, size_t start, size_t end, size_t number)
 {
-    size_t length = end - start;
-    if (length < field_limits[version][number - 1][0] ||
-        length > field_limits[version][number - 1][1]) {
-        return false;
-    }
     switch (number) {
     case 2:
     case 7:
@@ -336,26 +333,76 @@ static bool field_stands(const uint8_t *message, size_t start, size_t end,
     }
 }
 
-/* "Fields 1 to 5 must be there. Each later field may be empty, but the last
- * field, if its number is above 5, isn't empty." */
-static bool fields_stand(const uint8_t *message, size_t start, size_t end,
-                         size_t version, row_list *rows)
+/* 02, No. 1: "length before bytes": "31 short, 32 long, 33 bytes". The answer is
+ * 0 or the fault of a field that isn't omitted. */
+static uint32_t field_fault(const uint8_t *message, size_t start, size_t end,
+                            size_t version, size_t number)
 {
+    size_t length = end - start;
+    if (length < field_limits[version][number - 1][0]) {
+        return 31;
+    }
+    if (length > field_limits[version][number - 1][1]) {
+        return 32;
+    }
+    return field_bytes_stand(message, start, end, number) ? 0 : 33;
+}
+
+/* "Fields split by GS": the answer is how many there are, and the first 15 ends
+ * are kept. *last is the last field's start. */
+static size_t split_fields(const uint8_t *message, size_t start, size_t end,
+                           size_t ends[MOST_FIELDS], size_t *last)
+{
+    size_t count = 0;
     size_t at = start;
-    for (size_t number = 1; number <= fields_of_version[version]; number++) {
+    for (;;) {
         size_t field_end = piece_end(message, at, end, GS);
-        bool is_last = field_end == end;
-        bool is_omitted = number > MANDATORY_FIELDS && field_end == at && !is_last;
-        if (!is_omitted && !field_stands(message, at, field_end, version, number)) {
-            return false;
+        if (count < MOST_FIELDS) {
+            ends[count] = field_end;
         }
-        add_row(rows, KIND_FIELD, 1, at, field_end);
-        if (is_last) {
-            return number >= MANDATORY_FIELDS;
+        count++;
+        if (field_end == end) {
+            *last = at;
+            return count;
         }
         at = field_end + 1;
     }
-    return false; /* more fields than the version has */
+}
+
+/* "Fields 1 to 5 must be there. Each later field may be empty, but the last
+ * field, if its number is above 5, isn't empty." 02, No. 1, says what is told of
+ * a fault: "The count is judged first, with the last field; then fields from the
+ * left." The answer is 0 or the fault's number, with its place: "the offset where
+ * the faulty field starts, for a wrong count the first field's; where the count
+ * is right, for an empty last field its own". */
+static uint32_t fields_fault(const uint8_t *message, size_t start, size_t end,
+                             size_t version, row_list *rows, size_t *place)
+{
+    size_t ends[MOST_FIELDS];
+    size_t last = start;
+    size_t count = split_fields(message, start, end, ends, &last);
+    if (count < MANDATORY_FIELDS || count > fields_of_version[version]) {
+        *place = start;
+        return 30;
+    }
+    if (count > MANDATORY_FIELDS && last == end) {
+        *place = last;
+        return 30;
+    }
+
+    size_t at = start;
+    for (size_t number = 1; number <= count; number++) {
+        size_t field_end = ends[number - 1];
+        bool is_omitted = number > MANDATORY_FIELDS && field_end == at;
+        uint32_t fault = is_omitted ? 0 : field_fault(message, at, field_end, version, number);
+        if (fault != 0) {
+            *place = at;
+            return fault;
+        }
+        add_row(rows, KIND_FIELD, 1, at, field_end);
+        at = field_end + 1;
+    }
+    return 0;
 }
 
 /* ---- Numbers for the receiving desk: the reading ---- */
@@ -374,11 +421,14 @@ static outcome refused(uint32_t number, size_t place)
 
 /* "In an envelope: 6, 7, 8; then 9 for format 09; for 01 and 03 to 07 the body
  * runs to the first RS: 12, then 10, then 11; for 02: 11 if empty, else 10."
- * Two digits are known to stand at `indicator`. The answer is 0 or the number;
- * with 0, *next is the offset after the envelope. */
+ * 02, No. 1: 30 to 33 "where 11 stood for format 01". Two digits are known to
+ * stand at `indicator`. The answer is 0 or the number; with 0, *next is the
+ * offset after the envelope, else *place is the refusal's place. */
 static uint32_t read_envelope(const uint8_t *message, size_t length, size_t indicator,
-                              bool is_first, row_list *rows, uint32_t *format_read, size_t *next)
+                              bool is_first, row_list *rows, uint32_t *format_read,
+                              size_t *next, size_t *place)
 {
+    *place = indicator; /* but for 30 to 33, and for 11 in 05 and 06 */
     uint32_t format = (uint32_t)(message[indicator] - '0') * 10 +
                       (uint32_t)(message[indicator + 1] - '0');
     if (format == 0 || format == 8 || format >= 10) {
@@ -454,28 +504,20 @@ static uint32_t read_envelope(const uint8_t *message, size_t length, size_t indi
             return 10;
         }
     }
-    bool stands = true;
+    *next = end + 1;
     switch (format) {
     case 1:
-        stands = fields_stand(message, body, end, version, rows);
-        break;
+        return fields_fault(message, body, end, version, rows, place);
     case 3:
     case 4:
-        stands = segments_stand(message, body, end, format, rows);
-        break;
+        return segments_stand(message, body, end, format, rows) ? 0 : 11;
     case 5:
     case 6:
-        stands = elements_stand(message, body, end, format, rows);
-        break;
+        return elements_stand(message, body, end, format, rows, place) ? 0 : 11;
     default: /* 07 */
         add_row(rows, KIND_BODY, format, body, end);
-        break;
+        return 0;
     }
-    if (!stands) {
-        return 11;
-    }
-    *next = end + 1;
-    return 0;
 }
 
 /* "Order: 1, 2, then envelopes from the left. At a boundary after an envelope:
@@ -514,9 +556,11 @@ static outcome read_message(const uint8_t *message, size_t length, row_list *row
         }
         uint32_t format = 0;
         size_t next = at;
-        uint32_t number = read_envelope(message, length, at, envelopes == 0, rows, &format, &next);
+        size_t place = at;
+        uint32_t number = read_envelope(message, length, at, envelopes == 0, rows, &format,
+                                        &next, &place);
         if (number != 0) {
-            return refused(number, at);
+            return refused(number, place);
         }
         envelopes++;
         if (format == 2) {

@@ -1,14 +1,15 @@
-/* The reference: document 01 in plain C, written from that document alone, so
- * that it shares no error with the library it is compared with. Every function
- * allows a null pointer where the length is 0. Lengths count elements. */
+/* The reference: document 01 in plain C, and document 02 as far as its requests
+ * have landed (No. 1), written from the two alone, so that it shares no error
+ * with the library it is compared with. Every function allows a null pointer
+ * where the length is 0. Lengths count elements. */
 #ifndef REFERENCE_H
 #define REFERENCE_H
 
 #include <stddef.h>
 #include <stdint.h>
 
-/* Number 0 is acceptance with the counts, and place 0. Any other number is a
- * refusal with its place, and both counts are 0. */
+/* Number 0 is acceptance with the counts, and place 0. Any other number, 1 to 14
+ * or 30 to 33, is a refusal with its place, and both counts are 0. */
 typedef struct {
     uint32_t number, place, envelopes, rows;
 } reference_reading;
