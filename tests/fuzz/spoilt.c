@@ -22,6 +22,9 @@ zielorad_reading __wrap_zielorad_read(const uint8_t *message, size_t message_len
     if (SPOILT == 8 && answer.number == 0 && table[1] == 9 && table[15] > 12) {
         answer = (zielorad_reading){8, 4, 0, 0}; /* a count of 13 digits or more, taken for a bad header */
     }
+    if (SPOILT == 9 && answer.number == 32) {
+        answer.place++; /* too long a field, at another place */
+    }
     return answer;
 }
 
