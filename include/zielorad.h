@@ -10,8 +10,8 @@
  * - Nothing is written but what the function says, and nothing is kept.
  * - The call ends. It takes up to 25,000 bytes of stack.
  *
- * What each number means stands in README.md, for the people at the dock; the law is document 01. That each function does what is said
- * here is proved: docs/PROMISES.md. */
+ * What each number means stands in README.md, for the people at the dock; the law is document 01, with document 02 for what came later.
+ * That each function does what is said here is proved: docs/PROMISES.md. */
 #ifndef ZIELORAD_H
 #define ZIELORAD_H
 
@@ -22,8 +22,10 @@
 extern "C" {
 #endif
 
-/* What reading answers. number 0: the label is good, and has so many envelopes and rows; place is 0. Any other number, 1 to 14: the
- * label is refused, and place is the offset in it where the fault is; envelopes and rows are 0. */
+/* What reading answers. number 0: the label is good, and has so many envelopes and rows; place is 0. Any other number, 1 to 14 or 30 to
+ * 33: the label is refused, and place is the offset in it where the fault is; envelopes and rows are 0. For 30 to 33 that is where the
+ * faulty field of format 01 starts, the first field if their number is wrong; for 11 in formats 05 and 06 where the first faulty element
+ * starts. */
 typedef struct {
     uint32_t number;
     uint32_t place;
