@@ -257,8 +257,8 @@ static bool element_06_stands(const uint8_t *message, size_t start, size_t end)
     return at < end && is_capital(message[at]) && at + 1 < end;
 }
 
-/* "05, 06: elements split by GS." If they don't stand, *place is "the first
- * faulty element's start" (02, No. 1); an empty body is one empty element. */
+/* "05, 06: elements split by GS." If they don't stand, *place is where the first
+ * wrong one begins (02, No. 1); an empty body is one empty element. */
 static bool elements_stand(const uint8_t *message, size_t start, size_t end,
                            uint32_t format, row_list *rows, size_t *place)
 {
@@ -333,8 +333,8 @@ static bool field_bytes_stand(const uint8_t *message, size_t start, size_t end, 
     }
 }
 
-/* 02, No. 1: "length before bytes": "31 short, 32 long, 33 bytes". The answer is
- * 0 or the fault of a field that isn't omitted. */
+/* 02, No. 1: of a field that isn't omitted, its length and then its bytes. The
+ * answer is 0 or the fault's number. */
 static uint32_t field_fault(const uint8_t *message, size_t start, size_t end,
                             size_t version, size_t number)
 {
@@ -370,11 +370,10 @@ static size_t split_fields(const uint8_t *message, size_t start, size_t end,
 }
 
 /* "Fields 1 to 5 must be there. Each later field may be empty, but the last
- * field, if its number is above 5, isn't empty." 02, No. 1, says what is told of
- * a fault: "The count is judged first, with the last field; then fields from the
- * left." The answer is 0 or the fault's number, with its place: "the offset where
- * the faulty field starts, for a wrong count the first field's; where the count
- * is right, for an empty last field its own". */
+ * field, if its number is above 5, isn't empty." 02, No. 1, tells which rule is
+ * broken: how many fields there are and whether the last one is empty (30), and
+ * only then each field in turn. The answer is 0 or the fault's number, and its
+ * place a field's start: the first field's if there are too few or too many. */
 static uint32_t fields_fault(const uint8_t *message, size_t start, size_t end,
                              size_t version, row_list *rows, size_t *place)
 {
@@ -421,7 +420,7 @@ static outcome refused(uint32_t number, size_t place)
 
 /* "In an envelope: 6, 7, 8; then 9 for format 09; for 01 and 03 to 07 the body
  * runs to the first RS: 12, then 10, then 11; for 02: 11 if empty, else 10."
- * 02, No. 1: 30 to 33 "where 11 stood for format 01". Two digits are known to
+ * By 02, No. 1, format 01 has 30 to 33 in place of 11. Two digits are known to
  * stand at `indicator`. The answer is 0 or the number; with 0, *next is the
  * offset after the envelope, else *place is the refusal's place. */
 static uint32_t read_envelope(const uint8_t *message, size_t length, size_t indicator,
