@@ -92,10 +92,6 @@ third-fails true true h = h
 third-fails true false h = refl
 third-fails false b h = refl
 
--- of two
+-- of two, by the first
 pub left-fails : {a : Bool} (b : Bool) → a ≡ false → (a && b) ≡ false
 left-fails b h = ap (λ t. t && b) h
-
-pub right-fails : (a : Bool) {b : Bool} → b ≡ false → (a && b) ≡ false
-right-fails true h = h
-right-fails false h = refl

@@ -12,12 +12,12 @@ use Rattle.label.specs.declared.Reason.the-variants.{BadFormatHeader, PayloadDo
 use Rattle.label.specs.Bytes.{Bytes, FS, GS, RS, US, capitalOrDigit, every}
 use Rattle.label.specs.Values.{releaseLength}
 use Rattle.label.specs.ReadMessage.{agreement}
-use Rattle.label.proofs.Tests.{and-both, cond-yes, cond-no}
+use Rattle.label.proofs.Tests.{and-both, cond-yes, cond-no, right-fails}
 use Rattle.pieces.specs.declared.Kind.{Kind}
 use Rattle.envelope.specs.declared.Found.the-variants.{Closed, Refused}
 use Rattle.envelope.specs.Bodies.{bodyFound}
 use Rattle.envelope.specs.Formats.{beginsAt, segmentsFound, payloadFound}
-use Rattle.envelope.proofs.BodyLaws.{first-fails, second-fails, third-fails, left-fails, right-fails}
+use Rattle.envelope.proofs.BodyLaws.{first-fails, second-fails, third-fails, left-fails}
 
 module _ (k : Kind) (m : Bytes) (at : ℕ) (inside : at ≤ length m) where
   pub segments-short : length m - at < releaseLength → Refused BadFormatHeader ≡ segmentsFound k m at

@@ -12,7 +12,7 @@ use Rattle.label.specs.Bytes.{Bytes, digit, between}
 use Rattle.label.specs.Values.{value}
 use Rattle.label.specs.Formats.{Edition, ruleOf}
 use Rattle.label.specs.ReadEnvelope.{refuse, must, readBy, readEnvelope}
-use Rattle.label.proofs.Tests.{both}
+use Rattle.label.proofs.Tests.{both, right-fails}
 use Rattle.leaves.proofs.Turns.{drop-step}
 use Rattle.envelope.specs.Headers.{decimalOf, noIndicator, indicatorOf}
 
@@ -76,14 +76,10 @@ module _ (m : Bytes) (at tens units : ℕ) (inside : at + 2 ≤ length m) (ten :
   unfolding a b
   indicator-tens over = by-digits false (digit b) (none-by (digit a) a tens refl ten over) refl
 
-  and-false : (s : Bool) → (s && false) ≡ false
-  and-false true = refl
-  and-false false = refl
-
   pub indicator-units : 9 < units → noIndicator ≡ indicatorOf (drop at m)
   unfolding a b
   indicator-units over =
-      sym (ap (λ t. cond t (value (a ∷ b ∷ [])) noIndicator) (and-false (digit a))) ∙ by-digits (digit a) false refl (none-by (digit b) b units refl unit over)
+      sym (ap (λ t. cond t (value (a ∷ b ∷ [])) noIndicator) (right-fails (digit a) refl)) ∙ by-digits (digit a) false refl (none-by (digit b) b units refl unit over)
 
   pub indicator-both : tens ≤ 9 → units ≤ 9 → tens * 10 + units ≡ indicatorOf (drop at m)
   unfolding a b

@@ -47,7 +47,7 @@ module _ (l : Limit) (row i n : ℕ) (is : l ≡ limitOf row i) where
   reason-bytes enough few = by-length false false (le-ltb n (l .0) enough) (le-ltb (l .1) n few)
 
 -- a field that isn't as stated and fits its limits has wrong bytes
-pub field-fault-by : (v : Version) (i : ℕ) (f : Bytes) → cond (field v i f) Faultless (Faulty (fieldReason (versionRow v) i (length f))) ≡ fieldFault v i f
+field-fault-by : (v : Version) (i : ℕ) (f : Bytes) → cond (field v i f) Faultless (Faulty (fieldReason (versionRow v) i (length f))) ≡ fieldFault v i f
 unfolding field fieldFault longAs
 field-fault-by v i f =
     (λ j. cond (leb least (length f) && leb (length f) greatest && right || leftOut i f) Faultless (Faulty (cond (not-leb (length f) least j) FieldTooShort (cond (not-leb greatest (length f) j) FieldTooLong BadFieldBytes))))
@@ -82,7 +82,7 @@ last-past (suc k) [] = ap (λ t. t && false) (lt-leb (suc (suc k)) 0 (omega arit
 last-past (suc k) (p ∷ []) = ap (λ t. t && isEmpty p) (lt-leb (suc (suc k)) 1 (omega arith)) ∙ sym (ap lastIsEmpty (drop-nil k))
 last-past (suc k) (p ∷ (q ∷ ps)) = ap (λ t. t && lastIsEmpty (q ∷ ps)) (leb·suc-suc (suc k) (suc (length ps))) ∙ last-past k (q ∷ ps)
 
-pub fields-fault-by : (v : Version) (faultOf : ℕ → Bytes → PieceFault) → ((i : ℕ) (f : Bytes) → faultOf i f ≡ fieldFault v i f) → (body : Bytes) → fieldsFaultOf faultOf (mostFields v) body ≡ fieldsFault v body
+fields-fault-by : (v : Version) (faultOf : ℕ → Bytes → PieceFault) → ((i : ℕ) (f : Bytes) → faultOf i f ≡ fieldFault v i f) → (body : Bytes) → fieldsFaultOf faultOf (mostFields v) body ≡ fieldsFault v body
 unfolding fieldsFault
 fields-fault-by v faultOf same body =
     (λ j. cond (ltb (count j) leastFields || ltb (mostFields v) (count j)) (InPiece BadFieldCount 0)

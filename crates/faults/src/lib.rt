@@ -9,33 +9,32 @@ use label::Reason;
 use leaves::GS;
 use pieces::Kind;
 ghost use mathlib.Core.Path.{_≡_};
-ghost use lib.ListN.{length};
 ghost use Rattle.label.specs.Bytes.{GS};
 ghost use Rattle.label.specs.Pieces.{pieces};
 ghost use Rattle.label.specs.Faults.{firstFault};
 ghost use Rattle.faults.specs.PieceFaults.{fieldReason, reasonOf, pieceFault, fieldsFaultOf, faultOf};
 
-// Why a field is refused that isn't as stated: its length, or else its bytes.
-fn field_reason(row: usize, i: usize, length: usize) -> Reason
-    ensures { λ r. ⌜ r ≡ fieldReason row i length ⌝ }
+// Why a field of so many bytes is refused that isn't as stated: its length, or else its bytes.
+fn field_reason(row: usize, i: usize, n: usize) -> Reason
+    ensures { λ r. ⌜ r ≡ fieldReason row i n ⌝ }
 {
     let limit = limits::limits_of(row, i);
-    if length < limit.0 as usize {
+    if n < limit.0 as usize {
         return Reason::FieldTooShort;
     }
-    if (limit.1 as usize) < length {
+    if (limit.1 as usize) < n {
         return Reason::FieldTooLong;
     }
     Reason::BadFieldBytes
 }
 
-// Why a piece is refused that isn't as asked.
-fn reason_of(k: Kind, i: usize, length: usize) -> Reason
-    ensures { λ r. ⌜ r ≡ reasonOf k i length ⌝ }
+// Why a piece of so many bytes is refused that isn't as asked.
+fn reason_of(k: Kind, i: usize, n: usize) -> Reason
+    ensures { λ r. ⌜ r ≡ reasonOf k i n ⌝ }
 {
     match k {
-        Kind::Fields02 => field_reason(0, i, length),
-        Kind::Fields96 => field_reason(1, i, length),
+        Kind::Fields02 => field_reason(0, i, n),
+        Kind::Fields96 => field_reason(1, i, n),
         Kind::Segments03 => Reason::BodyBreaksRules,
         Kind::Segments04 => Reason::BodyBreaksRules,
         Kind::Elements05 => Reason::BodyBreaksRules,

@@ -27,7 +27,7 @@ use Rattle.label.specs.Written.{pieceRow, twoDigits, parts}
 use Rattle.label.specs.Message.{isTransport, isRest}
 use Rattle.label.specs.ReadEnvelope.{Step, closed, whole, refuse, refuseAt, must, opened, valuedAt, valued, broken, bodyAt, bodied, plainOrGS, versionOf, readFields, readTransport, readRest, segmentByte, segmentsIn, areSegments, readSegments, readElements, readText, readPayload, readCounted, readBy, readEnvelope}
 use Rattle.label.specs.Lacking.{aheadOfField, aheadOfElement, FaultIn}
-use Rattle.label.specs.Place.{judgedWhole}
+use Rattle.label.specs.Promised.{judgedWhole}
 use Rattle.label.proofs.Tests.{both, or-left, or-not, same-bytes, not-true}
 use Rattle.label.proofs.Splitting.{joined, terminated, joined-pieces, pieces-some, CutSo, cut-so, every-pieces}
 use Rattle.label.proofs.Laid.{segmentBytes, contentBytes, formatOf, bytes-each-ended, bytes-envelope}

@@ -18,8 +18,8 @@ use Rattle.label.specs.Envelope.{Envelope, fields, wholeRest, segments, 
 use Rattle.label.specs.Written.{twoDigits, parts}
 use Rattle.label.specs.Message.{isTransport}
 use Rattle.label.specs.Lacking.{FieldLacks, tooShort, tooLong, badBytes, FieldsLack, badCount, emptyLast, atField, ElementsLack, atElement, FaultIn}
-use Rattle.label.specs.Place.{judgedWhole, AtEnvelope, PlaceFor}
-use Rattle.label.specs.Promised.{refusedFrom}
+use Rattle.label.specs.Place.{AtEnvelope, PlaceFor}
+use Rattle.label.specs.Promised.{judgedWhole, refusedFrom}
 use Rattle.label.proofs.Laid.{bytes-envelope}
 use Rattle.label.proofs.EnvelopeSound.{RefusedSo, beforeRules, asWhole, StepSo, step-so}
 

@@ -23,7 +23,7 @@ use Rattle.label.specs.Values.{Version, version02, version96}
 use Rattle.label.specs.Fields.{fieldBytes, versionRow, leastFields, field, fieldsFrom, transport}
 use Rattle.label.specs.Faults.{faultOr, firstFault, elementFault, leftOut, fieldFault, countFits, fieldsFaultBy}
 use Rattle.label.specs.Lacking.{FieldLacks, tooShort, tooLong, badBytes, FieldsLack, badCount, emptyLast, atField, ElementsLack, atElement}
-use Rattle.label.proofs.Tests.{both, and-both, cond-yes, cond-no}
+use Rattle.label.proofs.Tests.{both, and-both, right-fails, cond-yes, cond-no}
 use Rattle.label.proofs.Splitting.{behind, joined, terminated, last-of-terminated, terminated-without-last}
 
 -- Pieces in front of one
@@ -33,7 +33,7 @@ behind-more : (c : ℕ) (front : List Bytes) (p : Bytes) (more : List Bytes) →
 behind-more c [] p more = refl
 behind-more c (q ∷ front) p more = refl
 
-pub joined-at : (c : ℕ) (front : List Bytes) (p : Bytes) (more : List Bytes) → joined c (front ++ (p ∷ more)) ≡ terminated c front ++ joined c (p ∷ more)
+joined-at : (c : ℕ) (front : List Bytes) (p : Bytes) (more : List Bytes) → joined c (front ++ (p ∷ more)) ≡ terminated c front ++ joined c (p ∷ more)
 joined-at c [] p more = refl
 joined-at c (q ∷ front) p more =
     ap (λ x. q ++ x) (behind-more c front p more ∙ ap (λ x. c ∷ x) (joined-at c front p more))
@@ -108,11 +108,7 @@ module _ (faultOf : ℕ → Bytes → PieceFault) where
   not-all-with : (front : List Bytes) (i : ℕ) (p : Bytes) (more : List Bytes) (r : Reason) → faultOf (i + length front) p ≡ Faulty r → faultlessFrom faultOf i (front ++ (p ∷ more)) ≡ false
   not-all-with [] i p more r faulty = ap (λ x. isFaultless x && faultlessFrom faultOf (i + 1) more) (ap (λ n. faultOf n p) (omega arith) ∙ faulty)
   not-all-with (q ∷ front) i p more r faulty =
-      and-false (isFaultless (faultOf i q)) (not-all-with front (i + 1) p more r (ap (λ n. faultOf n p) (omega arith) ∙ faulty))
-    where
-      and-false : (a : Bool) {b : Bool} → b ≡ false → (a && b) ≡ false
-      and-false true h = h
-      and-false false h = refl
+      right-fails (isFaultless (faultOf i q)) (not-all-with front (i + 1) p more r (ap (λ n. faultOf n p) (omega arith) ∙ faulty))
 
   first-pass : (front : List Bytes) (i at : ℕ) (p : Bytes) (more : List Bytes) (r : Reason) → faultlessFrom faultOf i front ≡ true → faultOf (i + length front) p ≡ Faulty r
       → firstFault faultOf i at (front ++ (p ∷ more)) ≡ InPiece r (at + length (terminated GS front))
@@ -336,13 +332,9 @@ module _ (v : Version) where
       let empty : lastIsEmpty (drop leastFields fs) ≡ true = ap (λ x. lastIsEmpty (drop leastFields x)) list ∙ last-empty-pass leastFields front past in
       let end : joined GS fs ≡ terminated GS front = ap (joined GS) list ∙ joined-at GS front [] [] ∙ append-nil (terminated GS front) in
       record {
-        broken = ap (λ t. keptBy (countFits v fs) (fieldsFrom v 0 fs) t) empty ∙ and-no (countFits v fs && fieldsFrom v 0 fs);
+        broken = right-fails (countFits v fs && fieldsFrom v 0 fs) (ap not empty);
         is = cond-yes (countFits v fs) _ _ fits ∙ cond-yes (lastIsEmpty (drop leastFields fs)) _ _ empty ∙ (λ i. InPiece (sym why i) (length (end i)));
       }
-    where
-      and-no : (a : Bool) → (a && false) ≡ false
-      and-no true = refl
-      and-no false = refl
   fields-fault-pass fs front r (atField fits full faultless f more list stands lacks) =
       let this : fieldFault v (0 + length front) f ≡ Faulty r = ap (λ n. fieldFault v n f) (omega arith) ∙ field-fault-pass v (length front) f r stands lacks in
       let not-all : fieldsFrom v 0 fs ≡ false = sym (fields-agree v fs 0) ∙ ap (faultlessFrom (fieldFault v) 0) list ∙ not-all-with (fieldFault v) front 0 f more r this in

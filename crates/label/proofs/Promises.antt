@@ -18,8 +18,8 @@ use Rattle.label.specs.Message.{isTransport, messageParts, rowsOf, Good}
 use Rattle.label.specs.ReadMessage.{Outcome, read, refused, reading}
 use Rattle.label.specs.Answer.{accepted, refusal, roomOf, readAnswer, overlaid, tableAfter}
 use Rattle.label.specs.Part.{emptyStart, stretchAt, partOf}
-use Rattle.label.specs.Place.{judgedWhole, AtEnvelope, AtPiece, PlaceFor}
-use Rattle.label.specs.Promised.{NoneGood, IsRefused, RefusedForAnyRoom, AcceptedAs, RefusedSo, refusedFrom, Alike, InOrder, Freed, new-message, bytesAt, contentAt}
+use Rattle.label.specs.Place.{AtEnvelope, AtPiece, PlaceFor}
+use Rattle.label.specs.Promised.{judgedWhole, NoneGood, IsRefused, RefusedForAnyRoom, AcceptedAs, RefusedSo, refusedFrom, Alike, InOrder, Freed, new-message, bytesAt, contentAt}
 use Rattle.label.proofs.ReadingSound.{ReadingSo, reading-so}
 use Rattle.label.proofs.ReadingComplete.{reading-pass}
 use Rattle.label.proofs.PlaceOnce.{one-place, none-if-good}

@@ -19,6 +19,11 @@ both false b h = absurd (false≢true h)
 pub and-both : {a b : Bool} → a ≡ true → b ≡ true → (a && b) ≡ true
 and-both {a} {b} p q = cc
 
+-- a conjunction whose second test fails
+pub right-fails : (a : Bool) {b : Bool} → b ≡ false → (a && b) ≡ false
+right-fails true h = h
+right-fails false h = refl
+
 pub or-left : {a : Bool} (b : Bool) → a ≡ true → (a || b) ≡ true
 or-left {a} b p = cc
 

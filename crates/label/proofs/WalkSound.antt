@@ -20,7 +20,7 @@ use Rattle.label.specs.Message.{isRest, Each}
 use Rattle.label.specs.Place.{goesOn}
 use Rattle.label.specs.ReadEnvelope.{Step, closed, whole, refuse, refuseAt, readEnvelope}
 use Rattle.label.specs.ReadMessage.{Outcome, read, refused, placeOf, andThen, afterTrailer, atBoundary, follow, walk}
-use Rattle.label.proofs.Tests.{and-both, not-false}
+use Rattle.label.proofs.Tests.{and-both, right-fails, not-false}
 use Rattle.label.proofs.EnvelopeSound.{RefusedSo, FaultSo, StepSo, ClosedSo, step-so}
 use Rattle.label.proofs.MessageBytes.{closedBytes, left-shorter}
 use Rattle.label.proofs.Placed.{placed}
@@ -64,10 +64,6 @@ abbrev pub WalkSo : Edition → Bytes → Bool → Bytes → Outcome → Type 0
 WalkSo edition m first bs (read es) = Alone edition first bs es ⊎ AllClosed edition first bs es
 WalkSo edition m first bs (refused r p) = Stopped edition m first bs r p
 
-not-first : (first : Bool) → (first && false) ≡ false
-not-first true = refl
-not-first false = refl
-
 may-be-first : (first : Bool) → (first && true) ≡ first
 may-be-first true = refl
 may-be-first false = refl
@@ -76,13 +72,13 @@ module _ (edition : Edition) (m : Bytes) where
   -- an envelope in front of what a walk over the rest, which goes on, answers
   stops-later : (first : Bool) (e : Envelope) (left : Bytes) (before : List Envelope) (rest : Bytes) (r : Reason) (p : ℕ) → goesOn left ≡ true → left ≡ closedBytes before rest
       → StopsAt edition m false before rest r p → StopsAt edition m first (e ∷ before) rest r p
-  stops-later first e left before rest r p on bytes (inEnvelope why due is place) = inEnvelope why (later-due before bytes due) (ap (λ x. readEnvelope edition x rest) (not-first first) ∙ is) place
+  stops-later first e left before rest r p on bytes (inEnvelope why due is place) = inEnvelope why (later-due before bytes due) (ap (λ x. readEnvelope edition x rest) (right-fails first refl) ∙ is) place
     where
       later-due : (before : List Envelope) → left ≡ closedBytes before rest → (isEmpty before || goesOn rest) ≡ true → goesOn rest ≡ true
       later-due [] bytes due = sym (ap goesOn bytes) ∙ on
       later-due (e ∷ es) bytes due = due
   stops-later first e left before rest r p on bytes (inBody from so is place) =
-      inBody from (subst (λ (x : Bool). FaultSo edition x rest r from) (sym (not-first first)) so) (ap (λ x. readEnvelope edition x rest) (not-first first) ∙ is) place
+      inBody from (subst (λ (x : Bool). FaultSo edition x rest r from) (sym (right-fails first refl)) so) (ap (λ x. readEnvelope edition x rest) (right-fails first refl) ∙ is) place
   stops-later first e left before rest r p on bytes (atEnd some none-left why place) = atEnd refl none-left why place
   stops-later first e left before rest r p on bytes (behindEnd more some is more-left why place) = behindEnd more refl is more-left why place
 

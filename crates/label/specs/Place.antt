@@ -12,7 +12,7 @@ use Rattle.label.specs.declared.Reason.{Reason}
 use Rattle.label.specs.declared.Reason.the-variants.{TooLong, NoMessageHeader, NoIndicator, NoTrailer, BytesAfterTrailer, UnknownFormat, NotFirst, BadFormatHeader, PayloadDoesNotFit, ByteNotPermitted, BodyBreaksRules, NoRecordSeparator, TooManyRows, NoRoom, BadFieldCount, FieldTooShort, FieldTooLong, BadFieldBytes}
 use Rattle.label.specs.Bytes.{Bytes, EOT, RS, every, isEmpty}
 use Rattle.label.specs.Limits.{longest, mostRows}
-use Rattle.label.specs.Formats.{Edition, Rule, asFields, asRest, asSegments, asElements, asText, asCounted, unknown}
+use Rattle.label.specs.Formats.{Edition}
 use Rattle.label.specs.Layout.{marks, bytesOf, ended}
 use Rattle.label.specs.Envelope.{Envelope, Within}
 use Rattle.label.specs.Written.{parts}
@@ -47,16 +47,6 @@ pub data CanStand (edition : Edition) (before : List Envelope) (rest : Bytes) : 
 abbrev pub goesOn : Bytes → Bool
 goesOn [] = false
 goesOn (b ∷ bs) = not (eqb b EOT)
-
--- whether a format's body that breaks the rules is refused as a whole, 11 at the indicator: 02, 03 and 04
-abbrev pub judgedWhole : Rule → Bool
-judgedWhole asFields = false
-judgedWhole (asRest permitted) = true
-judgedWhole (asSegments isTag) = true
-judgedWhole (asElements isElement) = false
-judgedWhole (asText permitted) = false
-judgedWhole asCounted = false
-judgedWhole unknown = false
 
 -- Places
 

@@ -1,6 +1,7 @@
 -- What the promises speak of, where a statement needs a name of its own (proofs/Promises, proofs/WriterPromises).
 use Prim.Native.Nat.{ℕ, zero, suc, _+_, _*_, _≤_, _<_}
 use mathlib.Core.Path.{_≡_}
+use mathlib.Core.Bool.{Bool, true, false}
 use mathlib.Core.Logic.{_⊎_, inl, inr}
 use mathlib.Core.List.{List, [], _∷_, _++_}
 use lib.ListN.{length, take, drop}
@@ -9,7 +10,7 @@ use Rattle.label.specs.declared.Stretch.{Stretch}
 use Rattle.label.specs.declared.Reason.the-variants.{BodyBreaksRules, NoRoom}
 use Rattle.label.specs.Bytes.{Bytes, RS}
 use Rattle.label.specs.Limits.{rowWidth}
-use Rattle.label.specs.Formats.{Edition}
+use Rattle.label.specs.Formats.{Edition, Rule, asFields, asRest, asSegments, asElements, asText, asCounted, unknown}
 use Rattle.label.specs.Layout.{Item, Row, bytesOf, itemsOf}
 use Rattle.label.specs.Envelope.{Envelope, counted}
 use Rattle.label.specs.Written.{parts}
@@ -56,6 +57,16 @@ module _ (edition : Edition) (m : Bytes) where
   -- a reason and a place that are so for the message; or 14 at 0, as the table lacks room
   abbrev pub RefusedSo : ℕ → Reason → ℕ → Type 0
   RefusedSo room r p = PlaceFor edition m r p ⊎ ((r ≡ NoRoom) × (p ≡ 0) × LacksRoom room)
+
+-- whether a format's body that breaks the rules is refused as a whole, 11 at the indicator: 02, 03 and 04
+abbrev pub judgedWhole : Rule → Bool
+judgedWhole asFields = false
+judgedWhole (asRest permitted) = true
+judgedWhole (asSegments isTag) = true
+judgedWhole (asElements isElement) = false
+judgedWhole (asText permitted) = false
+judgedWhole asCounted = false
+judgedWhole unknown = false
 
 -- the bytes from the indicator of the envelope on that is refused with 11
 abbrev pub refusedFrom : (edition : Edition) (m : Bytes) (p : ℕ) → PlaceFor edition m BodyBreaksRules p → Bytes

@@ -14,7 +14,7 @@ returns : tie.Need-returns
 returns c =
     let args = c .before .before .before .args in
     let found = c .before .before .limits-of in
-    reason-short (found .result) (args .row) (args .i) (args .length) (found .ensures) (c .if1 .taken)
+    reason-short (found .result) (args .row) (args .i) (args .n) (found .ensures) (c .if1 .taken)
 
 cast-if2 : tie.Need-cast-if2
 cast-if2 c = search needs
@@ -23,13 +23,13 @@ returns-2 : tie.Need-returns-2
 returns-2 c =
     let args = c .before .before .before .before .before .args in
     let found = c .before .before .before .before .limits-of in
-    reason-long (found .result) (args .row) (args .i) (args .length) (found .ensures) (c .before .before .if1 .left) (c .if2 .taken)
+    reason-long (found .result) (args .row) (args .i) (args .n) (found .ensures) (c .before .before .if1 .left) (c .if2 .taken)
 
 returns-3 : tie.Need-returns-3
 returns-3 c =
     let args = c .before .before .before .before .before .args in
     let found = c .before .before .before .before .limits-of in
-    reason-bytes (found .result) (args .row) (args .i) (args .length) (found .ensures) (c .before .before .if1 .left) (c .if2 .left)
+    reason-bytes (found .result) (args .row) (args .i) (args .n) (found .ensures) (c .before .before .if1 .left) (c .if2 .left)
 
 pub field-reason-spec : {M : Type 1} → statement M
 field-reason-spec =
