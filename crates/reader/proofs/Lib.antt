@@ -1,16 +1,2 @@
-pub mod CountedLaws
 pub mod OneOutcome
-pub mod Notes
-pub mod Framing
-pub mod ElementEnds
-pub mod PieceTurns
-pub mod Sweeping
-pub mod EnvelopeSweeps
-pub mod Going
 pub mod NotedRows
-pub mod Tags
-pub mod SegmentRows
-pub mod SegmentTurns
-pub mod FieldTurns
-pub mod TransportLaws
-pub mod FieldSizes

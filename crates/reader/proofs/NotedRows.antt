@@ -23,9 +23,9 @@ use Rattle.noted.specs.Noted.{answerFrom, tableFrom, stretchFrom}
 use Rattle.noted.proofs.Copying.{four-from}
 use Rattle.walk.specs.Cursors.{rowOf}
 use Rattle.stretches.specs.Stretches.{Lies}
-use Rattle.reader.specs.declared.quick.message.Swept.{Swept}
-use Rattle.reader.specs.declared.quick.message.Swept.the-variants.{Good}
-use Rattle.reader.specs.Quick.{cursorAfter, Holds, Kept, SweptSo, Handed, OneKept}
+use Rattle.sweeps.specs.declared.Swept.{Swept}
+use Rattle.sweeps.specs.declared.Swept.the-variants.{Good}
+use Rattle.sweeps.specs.Quick.{cursorAfter, Holds, Kept, SweptSo, Handed, OneKept}
 use Rattle.walk.proofs.Walks.{Yields}
 use Rattle.walk.proofs.Promises.{walked}
 use Rattle.walk.proofs.Standing.{rows-here, yields-next}

@@ -1,10 +1,10 @@
 // The part of a message that a row names, handed back uncopied.
-use crate::quick::Swept;
-use crate::quick::Wanted;
 use crate::quick::sweep;
 use label::MOST_ROWS;
 use label::ROW;
 use label::Stretch;
+use sweeps::Swept;
+use sweeps::Wanted;
 ghost use Prim.Native.Nat.{_+_};
 ghost use mathlib.Core.Path.{_≡_};
 ghost use lib.ListN.{take, drop};

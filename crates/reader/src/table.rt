@@ -1,17 +1,17 @@
 // Reading a message into a lent table: the whole message is judged first, and only then are its rows filled in. A good message is mostly
 // judged by the quick path, which notes the rows; what that leaves is read exactly.
-use crate::quick::Swept;
-use crate::quick::Wanted;
 use crate::quick::sweep;
 use label::Counts;
 use label::MOST_ROWS;
 use label::ROW;
 use label::Reading;
 use label::TABLE;
+use sweeps::Swept;
+use sweeps::Wanted;
 ghost use mathlib.Core.Path.{_≡_};
 ghost use Rattle.label.specs.Formats.{edition2005};
 ghost use Rattle.label.specs.Answer.{answerOf, roomOf, readAnswer, tableAfter};
-ghost use Rattle.reader.specs.Quick.{Handed};
+ghost use Rattle.sweeps.specs.Quick.{Handed};
 
 // Most labels have no more rows than this, and notes for the most rows take long to clear.
 const FEW_ROWS: usize = 64;

@@ -1,7 +1,5 @@
 // The quick path over format 09: three header values, each with its GS, then the payload and its RS. What it doesn't know at
 // once it leaves, as all of the quick path does.
-use crate::quick::notes::Passed;
-use crate::quick::notes::Wanted;
 use crate::quick::notes::given_up;
 use crate::quick::notes::note;
 use crate::quick::runs::run_end;
@@ -14,6 +12,9 @@ use label::MOST_TYPE;
 use leaves::Class;
 use leaves::GS;
 use leaves::RS;
+use sweeps::Passed;
+use sweeps::Value;
+use sweeps::Wanted;
 use walk::Stage;
 use walk::count_from;
 use walk::standing_at;
@@ -22,16 +23,8 @@ ghost use Rattle.label.specs.Formats.{edition2005, ruleOf};
 ghost use Rattle.envelope.specs.Formats.{countFound, compressionFound};
 ghost use Rattle.walk.specs.Shapes.{shapeOf};
 ghost use Rattle.walk.specs.Cursors.{opening};
-ghost use Rattle.reader.specs.Quick.{IfAny, FormatSwept, StandsAt};
-ghost use Rattle.reader.specs.Counted.{Due, PlainBytes, ValueSwept, PartSwept};
-
-// What a header value has to be: the stage of its row, its bytes' class, its least and its greatest length.
-pub struct Value {
-    pub stage: Stage,
-    pub class: Class,
-    pub least: usize,
-    pub most: usize,
-}
+ghost use Rattle.sweeps.specs.Quick.{IfAny, FormatSwept, StandsAt};
+ghost use Rattle.sweeps.specs.Counted.{Due, PlainBytes, ValueSwept, PartSwept};
 
 // Notes the row of a header value and answers the offset behind its GS, or 0.
 fn sweep_value(m: &[u8], from: usize, v: Value, at: usize, rows: usize, notes: &mut [u16]) -> usize

@@ -1,6 +1,4 @@
 // The quick path over formats 05 and 06: GS, then elements up to an RS.
-use crate::quick::notes::Passed;
-use crate::quick::notes::Wanted;
 use crate::quick::notes::given_up;
 use crate::quick::notes::note;
 use crate::quick::runs::piece_end;
@@ -9,6 +7,8 @@ use leaves::Class;
 use leaves::GS;
 use leaves::RS;
 use pieces::Kind;
+use sweeps::Passed;
+use sweeps::Wanted;
 use walk::Stage;
 use walk::standing_at;
 ghost use mathlib.Core.Path.{_≡_};
@@ -19,7 +19,7 @@ ghost use Rattle.label.specs.Formats.{edition2005, ruleOf};
 ghost use Rattle.pieces.specs.PieceTests.{pieceTest};
 ghost use Rattle.walk.specs.Shapes.{shapeOf};
 ghost use Rattle.walk.specs.Cursors.{plainRow, opening};
-ghost use Rattle.reader.specs.Quick.{Framed, PassesTo, IfAny, digitRun, ElementsOf, BodySwept, FormatSwept, StandsAt};
+ghost use Rattle.sweeps.specs.Quick.{Framed, PassesTo, IfAny, digitRun, ElementsOf, BodySwept, FormatSwept, StandsAt};
 
 // Behind at most three digits.
 fn behind_digits(m: &[u8], at: usize) -> usize

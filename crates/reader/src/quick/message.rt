@@ -1,8 +1,6 @@
 // The quick path over a whole message: its frame, then an envelope a turn, each by its format.
 use crate::quick::counted::sweep_counted;
 use crate::quick::elements::sweep_elements;
-use crate::quick::notes::Passed;
-use crate::quick::notes::Wanted;
 use crate::quick::notes::given_up;
 use crate::quick::notes::note;
 use crate::quick::segments::sweep_segments;
@@ -14,6 +12,9 @@ use label::HEADER_LENGTH;
 use label::LONGEST;
 use leaves::EOT;
 use pieces::Kind;
+use sweeps::Passed;
+use sweeps::Swept;
+use sweeps::Wanted;
 use walk::Stage;
 use walk::standing_at;
 ghost use Prim.Native.Nat.{_≤_, _<_};
@@ -22,14 +23,7 @@ ghost use Rattle.label.specs.Limits.{mostRows};
 ghost use Rattle.label.specs.Formats.{edition2005, ruleOf};
 ghost use Rattle.walk.specs.Shapes.{shapeOf};
 ghost use Rattle.walk.specs.Cursors.{indicatorAt, opening};
-ghost use Rattle.reader.specs.Quick.{IfAny, FormatSwept, EnvelopeSwept, IfSo, Headed, SaysNothing, EndsSo, SweptSo, StandsAt};
-
-// A good message with its counts, one with more rows than were asked for, or one that is left.
-pub enum Swept {
-    Good(Counts),
-    Full,
-    Left,
-}
+ghost use Rattle.sweeps.specs.Quick.{IfAny, FormatSwept, EnvelopeSwept, IfSo, Headed, SaysNothing, EndsSo, SweptSo, StandsAt};
 
 // The format with a number, behind its indicator.
 fn sweep_format(m: &[u8], w: Wanted, f: u32, at: usize, rows: usize, notes: &mut [u16]) -> Passed

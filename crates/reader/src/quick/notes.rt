@@ -1,6 +1,7 @@
-// Notes: the rows that the sweep has gone over, in memory of its own, as four numbers each in the table's layout. And what the sweep of a part of
-// the message answers.
+// Notes: the rows that the sweep has gone over, in memory of its own, as four numbers each in the table's layout. And the answer that gives the
+// message up.
 use label::ROW;
+use sweeps::Passed;
 use walk::Cursor;
 use walk::kind_of;
 ghost use mathlib.Core.Path.{_≡_};
@@ -8,19 +9,7 @@ ghost use Prim.Native.Nat.{_+_, _≤_};
 ghost use lib.ListN.{length, set};
 ghost use Rattle.label.specs.Limits.{longest, rowWidth};
 ghost use Rattle.walk.specs.Cursors.{kindOf};
-ghost use Rattle.reader.specs.Quick.{Notable, NotedOne};
-
-// Which rows are noted, those from a number on as far as the notes reach; and how many rows are gone over at most.
-pub struct Wanted {
-    pub from: usize,
-    pub most: usize,
-}
-
-// Where the sweep goes on, 0 where it leaves the message; and the rows gone over so far.
-pub struct Passed {
-    pub next: usize,
-    pub rows: usize,
-}
+ghost use Rattle.sweeps.specs.Quick.{Notable, NotedOne};
 
 // The message is left to the exact reader, after so many rows.
 pub(crate) fn given_up(rows: usize) -> Passed

@@ -8,7 +8,7 @@ ghost use lib.ListN.{length};
 ghost use Rattle.label.specs.Bytes.{EOT as endByte};
 ghost use Rattle.leaves.specs.Classes.{classOf};
 ghost use Rattle.pieces.specs.PieceTests.{pieceTest};
-ghost use Rattle.reader.specs.Quick.{Framed, RunsTo, PassesTo, IfAny};
+ghost use Rattle.sweeps.specs.Quick.{Framed, RunsTo, PassesTo, IfAny};
 
 // Where a run of bytes of a class ends. The message's EOT is of no such class, so that no end is asked for.
 pub(crate) fn run_end(m: &[u8], k: Class, at: usize) -> usize

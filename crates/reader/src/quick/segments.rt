@@ -1,7 +1,5 @@
 // The quick path over formats 03 and 04: six bytes, FS GS US, then segments up to an RS. What it doesn't know at once it leaves,
 // as all of the quick path does. So it leaves `BIN`, which only 04 takes as a tag, and asks the same of the tags of both.
-use crate::quick::notes::Passed;
-use crate::quick::notes::Wanted;
 use crate::quick::notes::given_up;
 use crate::quick::notes::note;
 use crate::quick::runs::piece_end;
@@ -13,6 +11,8 @@ use leaves::GS;
 use leaves::RS;
 use leaves::US;
 use pieces::Kind;
+use sweeps::Passed;
+use sweeps::Wanted;
 use walk::Stage;
 use walk::standing_at;
 ghost use mathlib.Core.Path.{_≡_};
@@ -21,8 +21,8 @@ ghost use lib.ListN.{length};
 ghost use Rattle.label.specs.Formats.{edition2005, ruleOf};
 ghost use Rattle.walk.specs.Shapes.{shapeOf};
 ghost use Rattle.walk.specs.Cursors.{plainRow, opening, afterSubElement};
-ghost use Rattle.reader.specs.Quick.{Framed, IfAny, BodySwept, FormatSwept, StandsAt};
-ghost use Rattle.reader.specs.Segments.{stageBehind, segmentsKind, TagTo, SegmentsDue, LaterSwept, SegmentSwept};
+ghost use Rattle.sweeps.specs.Quick.{Framed, IfAny, BodySwept, FormatSwept, StandsAt};
+ghost use Rattle.sweeps.specs.Segments.{stageBehind, segmentsKind, TagTo, SegmentsDue, LaterSwept, SegmentSwept};
 
 // The end of a tag that has GS or FS behind it, or 0.
 fn tag_end(m: &[u8], at: usize) -> usize

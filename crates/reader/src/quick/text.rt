@@ -1,16 +1,16 @@
 // The quick path over format 07: text up to an RS.
-use crate::quick::notes::Passed;
-use crate::quick::notes::Wanted;
 use crate::quick::notes::given_up;
 use crate::quick::notes::note;
 use leaves::Class;
 use leaves::RS;
+use sweeps::Passed;
+use sweeps::Wanted;
 use walk::Stage;
 use walk::standing_at;
 ghost use Rattle.label.specs.Formats.{edition2005, ruleOf};
 ghost use Rattle.walk.specs.Shapes.{shapeOf};
 ghost use Rattle.walk.specs.Cursors.{opening};
-ghost use Rattle.reader.specs.Quick.{IfAny, FormatSwept, StandsAt};
+ghost use Rattle.sweeps.specs.Quick.{IfAny, FormatSwept, StandsAt};
 
 // 07: text up to an RS.
 pub(crate) fn sweep_text(m: &[u8], w: Wanted, at: usize, rows: usize, notes: &mut [u16]) -> Passed

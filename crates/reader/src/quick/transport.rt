@@ -1,7 +1,5 @@
 // The quick path over format 01: GS, the version, then fields, each by its number. What it doesn't know at once it leaves, as
 // all of the quick path does.
-use crate::quick::notes::Passed;
-use crate::quick::notes::Wanted;
 use crate::quick::notes::given_up;
 use crate::quick::notes::note;
 use crate::quick::runs::piece_end;
@@ -14,6 +12,8 @@ use leaves::Class;
 use leaves::GS;
 use leaves::RS;
 use pieces::Kind;
+use sweeps::Passed;
+use sweeps::Wanted;
 use walk::Stage;
 use walk::standing_at;
 ghost use mathlib.Core.Path.{_≡_};
@@ -24,8 +24,8 @@ ghost use Rattle.label.specs.Formats.{edition2005, ruleOf};
 ghost use Rattle.pieces.specs.PieceTests.{pieceTest};
 ghost use Rattle.walk.specs.Shapes.{shapeOf};
 ghost use Rattle.walk.specs.Cursors.{plainRow, opening};
-ghost use Rattle.reader.specs.Quick.{Framed, PassesTo, IfAny, IfSo, BodySwept, FormatSwept, StandsAt};
-ghost use Rattle.reader.specs.Transport.{FieldsOf, LastRight, fitsIn, sizeFits};
+ghost use Rattle.sweeps.specs.Quick.{Framed, PassesTo, IfAny, IfSo, BodySwept, FormatSwept, StandsAt};
+ghost use Rattle.sweeps.specs.Transport.{FieldsOf, LastRight, fitsIn, sizeFits};
 
 // Where the format's indicator ends: 01 is allowed only as the first envelope.
 const FIRST: usize = HEADER_LENGTH + 2;

@@ -2,7 +2,7 @@
 use native.Mathlib.Omega.{arith}
 use borrow.Author.Needs.{needs}
 use Rattle.walk.specs.declared.Stage.the-variants.{CountValue}
-use Rattle.reader.proofs.CountedLaws.{behind-compression, value-due, compressionValue, compression-swept}
+use Rattle.sweeps.proofs.CountedLaws.{behind-compression, value-due, compressionValue, compression-swept}
 use Rattle.reader.proofs.quick.counted.sweep_compression.Statement.{statement}
 use Rattle.reader.proofs.quick.counted.sweep_compression.Tie as tie
 

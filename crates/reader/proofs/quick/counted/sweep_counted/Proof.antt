@@ -3,7 +3,7 @@ use Prim.Native.Nat.{_+_}
 use native.Mathlib.Omega.{arith}
 use borrow.Author.Needs.{needs}
 use Rattle.walk.specs.declared.Stage.the-variants.{CompressionValue}
-use Rattle.reader.proofs.CountedLaws.{behind-type, value-due, typeValue, type-due, counted-swept}
+use Rattle.sweeps.proofs.CountedLaws.{behind-type, value-due, typeValue, type-due, counted-swept}
 use Rattle.reader.proofs.quick.counted.sweep_counted.Statement.{statement}
 use Rattle.reader.proofs.quick.counted.sweep_counted.Tie as tie
 

@@ -3,7 +3,7 @@ use native.Mathlib.Omega.{arith}
 use borrow.Author.Needs.{needs}
 use Rattle.walk.specs.declared.Stage.the-variants.{Body}
 use Rattle.walk.proofs.Shaped.{digit-plain}
-use Rattle.reader.proofs.CountedLaws.{row-notable, payload-swept}
+use Rattle.sweeps.proofs.CountedLaws.{row-notable, payload-swept}
 use Rattle.reader.proofs.quick.counted.sweep_payload.Statement.{statement}
 use Rattle.reader.proofs.quick.counted.sweep_payload.Tie as tie
 

@@ -2,7 +2,7 @@
 use native.Mathlib.Omega.{arith}
 use borrow.Author.Needs.{needs}
 use Rattle.leaves.specs.Classes.{classOf}
-use Rattle.reader.proofs.CountedLaws.{without-end, row-notable, value-swept}
+use Rattle.sweeps.proofs.CountedLaws.{without-end, row-notable, value-swept}
 use Rattle.reader.proofs.quick.counted.sweep_value.Statement.{statement}
 use Rattle.reader.proofs.quick.counted.sweep_value.Tie as tie
 

@@ -6,9 +6,9 @@ use native.Mathlib.Omega.{arith}
 use borrow.Author.Needs.{needs}
 use borrow.Author.Tests.{not-true, not-false}
 use lib.ListN.{length, drop}
-use Rattle.reader.specs.Quick.{digitRun}
-use Rattle.reader.proofs.Framing.{digit-behind}
-use Rattle.reader.proofs.ElementEnds.{digits-by}
+use Rattle.sweeps.specs.Quick.{digitRun}
+use Rattle.sweeps.proofs.Framing.{digit-behind}
+use Rattle.sweeps.proofs.ElementEnds.{digits-by}
 use Rattle.reader.proofs.quick.elements.behind_digits.Statement.{statement}
 use Rattle.reader.proofs.quick.elements.behind_digits.Tie as tie
 

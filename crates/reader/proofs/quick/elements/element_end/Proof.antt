@@ -3,7 +3,7 @@ use mathlib.Core.Path.{sym, subst}
 use native.Mathlib.Omega.{arith}
 use Rattle.pieces.specs.declared.Kind.{Kind}
 use Rattle.pieces.specs.PieceTests.{pieceTest}
-use Rattle.reader.specs.Quick.{PassesTo}
+use Rattle.sweeps.specs.Quick.{PassesTo}
 use borrow.Author.Needs.{needs}
 use Rattle.reader.proofs.quick.elements.element_end.Statement.{statement}
 use Rattle.reader.proofs.quick.elements.element_end.Tie as tie

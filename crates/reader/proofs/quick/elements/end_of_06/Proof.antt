@@ -1,7 +1,7 @@
 -- `end_of_06`: digits, a capital, and the run of plain bytes from there.
 use native.Mathlib.Omega.{arith}
 use Rattle.label.specs.Bytes.{plain, between}
-use Rattle.reader.proofs.ElementEnds.{behind-capital, passes-06}
+use Rattle.sweeps.proofs.ElementEnds.{behind-capital, passes-06}
 use borrow.Author.Needs.{needs}
 use Rattle.reader.proofs.quick.elements.end_of_06.Statement.{statement}
 use Rattle.reader.proofs.quick.elements.end_of_06.Tie as tie

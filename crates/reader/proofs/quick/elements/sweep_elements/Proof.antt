@@ -1,8 +1,8 @@
 -- `sweep_elements`: the elements are due behind GS.
 use native.Mathlib.Omega.{arith}
 use Rattle.label.specs.Bytes.{GS}
-use Rattle.reader.proofs.Framing.{byte-behind}
-use Rattle.reader.proofs.EnvelopeSweeps.{elements-due, elements-swept}
+use Rattle.sweeps.proofs.Framing.{byte-behind}
+use Rattle.sweeps.proofs.EnvelopeSweeps.{elements-due, elements-swept}
 use borrow.Author.Needs.{needs}
 use Rattle.reader.proofs.quick.elements.sweep_elements.Statement.{statement}
 use Rattle.reader.proofs.quick.elements.sweep_elements.Tie as tie

@@ -6,8 +6,8 @@ use borrow.Author.Needs.{needs}
 use lib.ListN.{length}
 use Rattle.walk.specs.declared.Stage.the-variants.{Piece}
 use Rattle.walk.specs.declared.Cursor.{Cursor}
-use Rattle.reader.specs.Quick.{Notable}
-use Rattle.reader.proofs.Sweeping.{Sweeping, sweeping-first, elements-known, run-notable, sweeping-on, sweeping-last}
+use Rattle.sweeps.specs.Quick.{Notable}
+use Rattle.sweeps.proofs.Sweeping.{Sweeping, sweeping-first, elements-known, run-notable, sweeping-on, sweeping-last}
 use Rattle.reader.proofs.quick.elements.sweep_pieces.Statement.{statement}
 use Rattle.reader.proofs.quick.elements.sweep_pieces.Tie as tie
 

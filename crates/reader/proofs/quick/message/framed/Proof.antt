@@ -3,8 +3,8 @@ use Prim.Native.Nat.{_-_}
 use mathlib.Core.Bool.{false≢true}
 use lib.ListN.{length}
 use Rattle.label.specs.Message.{header}
-use Rattle.reader.specs.Quick.{IfSo}
-use Rattle.reader.proofs.Framing.{HeadedSoFar, headed-none, headed-turn, headed-by}
+use Rattle.sweeps.specs.Quick.{IfSo}
+use Rattle.sweeps.proofs.Framing.{HeadedSoFar, headed-none, headed-turn, headed-by}
 use borrow.Author.Needs.{needs}
 use Rattle.reader.proofs.quick.message.framed.Statement.{statement}
 use Rattle.reader.proofs.quick.message.framed.Tie as tie

@@ -5,7 +5,7 @@ use native.Mathlib.Omega.{arith}
 use borrow.Author.Needs.{needs}
 use borrow.Author.Tests.{not-false}
 use lib.ListN.{length}
-use Rattle.reader.proofs.Going.{Going, going-first, going-on, further-on, ended-so, nothing-said}
+use Rattle.sweeps.proofs.Going.{Going, going-first, going-on, further-on, ended-so, nothing-said}
 use Rattle.reader.proofs.quick.message.sweep.Statement.{statement}
 use Rattle.reader.proofs.quick.message.sweep.Tie as tie
 

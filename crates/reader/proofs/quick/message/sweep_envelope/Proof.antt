@@ -1,6 +1,6 @@
 -- `sweep_envelope` notes the indicator's row, and its format follows.
 use native.Mathlib.Omega.{arith}
-use Rattle.reader.proofs.EnvelopeSweeps.{units-fit, indicator-notable, format-due, envelope-swept}
+use Rattle.sweeps.proofs.EnvelopeSweeps.{units-fit, indicator-notable, format-due, envelope-swept}
 use borrow.Author.Needs.{needs}
 use Rattle.reader.proofs.quick.message.sweep_envelope.Statement.{statement}
 use Rattle.reader.proofs.quick.message.sweep_envelope.Tie as tie

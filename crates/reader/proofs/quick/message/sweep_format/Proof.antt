@@ -1,7 +1,7 @@
 -- `sweep_format` is an arm for each format that is swept.
 use mathlib.Core.Path.{refl}
 use native.Mathlib.Omega.{arith}
-use Rattle.reader.proofs.EnvelopeSweeps.{due-as, swept-as}
+use Rattle.sweeps.proofs.EnvelopeSweeps.{due-as, swept-as}
 use borrow.Author.Needs.{needs}
 use Rattle.reader.proofs.quick.message.sweep_format.Statement.{statement}
 use Rattle.reader.proofs.quick.message.sweep_format.Tie as tie

@@ -1,6 +1,6 @@
 -- `note` puts a row where it belongs, or passes over it.
 use borrow.Author.Needs.{needs}
-use Rattle.reader.proofs.Notes.{noted-before, noted-behind, noted-put}
+use Rattle.sweeps.proofs.Notes.{noted-before, noted-behind, noted-put}
 use Rattle.reader.proofs.quick.notes.note.Statement.{statement}
 use Rattle.reader.proofs.quick.notes.note.Tie as tie
 

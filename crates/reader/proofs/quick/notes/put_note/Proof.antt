@@ -1,7 +1,7 @@
 -- `put_note` makes four stores.
 use borrow.Author.Needs.{needs}
 use lib.ListN.{length-set}
-use Rattle.reader.proofs.Notes.{kind-small}
+use Rattle.sweeps.proofs.Notes.{kind-small}
 use Rattle.reader.proofs.quick.notes.put_note.Statement.{statement}
 use Rattle.reader.proofs.quick.notes.put_note.Tie as tie
 

@@ -9,7 +9,7 @@ use lib.ListN.{length, drop}
 use Rattle.leaves.specs.Classes.{classOf}
 use Rattle.walk.specs.Cursors.{runOf}
 use Rattle.walk.proofs.Offsets.{run-by}
-use Rattle.reader.proofs.Framing.{class-behind}
+use Rattle.sweeps.proofs.Framing.{class-behind}
 use Rattle.reader.proofs.quick.runs.run_end.Statement.{statement}
 use Rattle.reader.proofs.quick.runs.run_end.Tie as tie
 

@@ -4,7 +4,7 @@ use mathlib.Core.Path.{_≡_, refl}
 use native.Mathlib.Omega.{arith}
 use borrow.Author.Needs.{needs}
 use lib.ListN.{length}
-use Rattle.reader.proofs.SegmentTurns.{Segmenting, segmenting-first, segmenting-on, segmenting-last}
+use Rattle.sweeps.proofs.SegmentTurns.{Segmenting, segmenting-first, segmenting-on, segmenting-last}
 use Rattle.reader.proofs.quick.segments.sweep_body.Statement.{statement}
 use Rattle.reader.proofs.quick.segments.sweep_body.Tie as tie
 

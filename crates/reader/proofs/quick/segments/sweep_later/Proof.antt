@@ -8,9 +8,9 @@ use Rattle.label.specs.Bytes.{plain, between}
 use Rattle.walk.specs.declared.Stage.{Stage}
 use Rattle.walk.specs.declared.Cursor.{Cursor}
 use Rattle.walk.specs.Cursors.{standing}
-use Rattle.reader.specs.Quick.{Notable}
-use Rattle.reader.proofs.Sweeping.{run-notable}
-use Rattle.reader.proofs.SegmentRows.{Rowing, rowing-first, parts-more, rowing-on, rowing-last}
+use Rattle.sweeps.specs.Quick.{Notable}
+use Rattle.sweeps.proofs.Sweeping.{run-notable}
+use Rattle.sweeps.proofs.SegmentRows.{Rowing, rowing-first, parts-more, rowing-on, rowing-last}
 use Rattle.reader.proofs.quick.segments.sweep_later.Statement.{statement}
 use Rattle.reader.proofs.quick.segments.sweep_later.Tie as tie
 

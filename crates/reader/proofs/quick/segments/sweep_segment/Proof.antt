@@ -4,9 +4,9 @@ use native.Mathlib.Omega.{arith}
 use borrow.Author.Needs.{needs}
 use Rattle.walk.specs.declared.Stage.the-variants.{Tag}
 use Rattle.walk.specs.declared.Cursor.{Cursor}
-use Rattle.reader.specs.Quick.{Notable}
-use Rattle.reader.proofs.Sweeping.{run-notable}
-use Rattle.reader.proofs.SegmentRows.{tag-noted, segment-swept}
+use Rattle.sweeps.specs.Quick.{Notable}
+use Rattle.sweeps.proofs.Sweeping.{run-notable}
+use Rattle.sweeps.proofs.SegmentRows.{tag-noted, segment-swept}
 use Rattle.reader.proofs.quick.segments.sweep_segment.Statement.{statement}
 use Rattle.reader.proofs.quick.segments.sweep_segment.Tie as tie
 

@@ -7,8 +7,8 @@ use borrow.Author.Tests.{not-false}
 use lib.ListN.{take, drop}
 use Rattle.label.specs.Bytes.{capitalOrDigit, every}
 use Rattle.walk.specs.declared.Cursor.{Cursor}
-use Rattle.reader.specs.Quick.{Notable}
-use Rattle.reader.proofs.SegmentTurns.{release-noted, segments-swept}
+use Rattle.sweeps.specs.Quick.{Notable}
+use Rattle.sweeps.proofs.SegmentTurns.{release-noted, segments-swept}
 use Rattle.reader.proofs.quick.segments.sweep_segments.Statement.{statement}
 use Rattle.reader.proofs.quick.segments.sweep_segments.Tie as tie
 

@@ -1,6 +1,6 @@
 -- `tag_end`: what `pieces` takes for a tag, and the byte behind it.
 use native.Mathlib.Omega.{arith}
-use Rattle.reader.proofs.Tags.{tag-to}
+use Rattle.sweeps.proofs.Tags.{tag-to}
 use borrow.Author.Needs.{needs}
 use Rattle.reader.proofs.quick.segments.tag_end.Statement.{statement}
 use Rattle.reader.proofs.quick.segments.tag_end.Tie as tie

@@ -2,7 +2,7 @@
 use mathlib.Core.Path.{sym, _∙_}
 use borrow.Author.Tests.{not-false}
 use native.Mathlib.Omega.{arith}
-use Rattle.reader.proofs.EnvelopeSweeps.{text-notable, text-swept}
+use Rattle.sweeps.proofs.EnvelopeSweeps.{text-notable, text-swept}
 use borrow.Author.Needs.{needs}
 use Rattle.reader.proofs.quick.text.sweep_text.Statement.{statement}
 use Rattle.reader.proofs.quick.text.sweep_text.Tie as tie

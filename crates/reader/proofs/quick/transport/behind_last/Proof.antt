@@ -1,7 +1,7 @@
 -- `behind_last`: the tests of how many fields there are and of the last one's size.
 use mathlib.Core.Path.{refl}
 use borrow.Author.Needs.{needs}
-use Rattle.reader.proofs.FieldTurns.{last-right}
+use Rattle.sweeps.proofs.FieldTurns.{last-right}
 use Rattle.reader.proofs.quick.transport.behind_last.Statement.{statement}
 use Rattle.reader.proofs.quick.transport.behind_last.Tie as tie
 

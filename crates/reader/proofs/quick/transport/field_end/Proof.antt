@@ -3,8 +3,8 @@ use Prim.Native.Nat.{_-_}
 use native.Mathlib.Omega.{arith}
 use borrow.Author.Needs.{needs}
 use Rattle.label.specs.Bytes.{plain, between}
-use Rattle.reader.proofs.PieceTurns.{piece, piece-plain, piece-long}
-use Rattle.reader.proofs.FieldSizes.{field-sized}
+use Rattle.sweeps.proofs.PieceTurns.{piece, piece-plain, piece-long}
+use Rattle.sweeps.proofs.FieldSizes.{field-sized}
 use Rattle.reader.proofs.quick.transport.field_end.Statement.{statement}
 use Rattle.reader.proofs.quick.transport.field_end.Tie as tie
 

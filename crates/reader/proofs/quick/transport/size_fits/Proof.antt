@@ -2,7 +2,7 @@
 use mathlib.Core.Path.{sym, ap, _∙_}
 use mathlib.Core.Bool.{false≢true}
 use borrow.Author.Needs.{needs}
-use Rattle.reader.specs.Transport.{sizeFits}
+use Rattle.sweeps.specs.Transport.{sizeFits}
 use Rattle.reader.proofs.quick.transport.size_fits.Statement.{statement}
 use Rattle.reader.proofs.quick.transport.size_fits.Tie as tie
 

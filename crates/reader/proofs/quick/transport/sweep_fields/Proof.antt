@@ -6,9 +6,9 @@ use borrow.Author.Needs.{needs}
 use lib.ListN.{length}
 use Rattle.walk.specs.declared.Stage.the-variants.{Piece}
 use Rattle.walk.specs.declared.Cursor.{Cursor}
-use Rattle.reader.specs.Quick.{Notable}
-use Rattle.reader.proofs.Sweeping.{run-notable}
-use Rattle.reader.proofs.FieldTurns.{SweepingFields, fields-first, fields-on, fields-last}
+use Rattle.sweeps.specs.Quick.{Notable}
+use Rattle.sweeps.proofs.Sweeping.{run-notable}
+use Rattle.sweeps.proofs.FieldTurns.{SweepingFields, fields-first, fields-on, fields-last}
 use Rattle.reader.proofs.quick.transport.sweep_fields.Statement.{statement}
 use Rattle.reader.proofs.quick.transport.sweep_fields.Tie as tie
 

@@ -3,7 +3,7 @@ use mathlib.Core.Path.{refl}
 use native.Mathlib.Omega.{arith}
 use borrow.Author.Needs.{needs}
 use Rattle.pieces.specs.declared.Kind.the-variants.{Fields02, Fields96}
-use Rattle.reader.proofs.TransportLaws.{begins, fields-inside, version-notable, version-noted, found-02, found-96, transport-swept}
+use Rattle.sweeps.proofs.TransportLaws.{begins, fields-inside, version-notable, version-noted, found-02, found-96, transport-swept}
 use Rattle.reader.proofs.quick.transport.sweep_transport.Statement.{statement}
 use Rattle.reader.proofs.quick.transport.sweep_transport.Tie as tie
 

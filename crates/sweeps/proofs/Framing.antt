@@ -13,7 +13,7 @@ use Rattle.label.specs.Message.{header}
 use Rattle.label.specs.ReadMessage.{agreement}
 use Rattle.label.proofs.Tests.{both}
 use Rattle.tallies.proofs.Agreement.{agree-on}
-use Rattle.reader.specs.Quick.{IfSo, Framed, Headed}
+use Rattle.sweeps.specs.Quick.{IfSo, Framed, Headed}
 
 module _ (m : Bytes) (framed : Framed m) (i : ℕ) (inside : i < length m) where
   pub more-behind : (getD m i 0 ≡ EOT → ⊥) → i + 1 < length m

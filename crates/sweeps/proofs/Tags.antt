@@ -13,9 +13,9 @@ use Rattle.leaves.proofs.Turns.{seek-behind}
 use Rattle.pieces.specs.declared.Kind.the-variants.{Segments03}
 use Rattle.pieces.specs.PieceTests.{pieceTest}
 use Rattle.pieces.proofs.SeekLaws.{seek-absent}
-use Rattle.reader.specs.Quick.{PassesTo}
-use Rattle.reader.specs.Segments.{TagTo}
-use Rattle.reader.proofs.PieceTurns.{no-gs, piece, piece-plain}
+use Rattle.sweeps.specs.Quick.{PassesTo}
+use Rattle.sweeps.specs.Segments.{TagTo}
+use Rattle.sweeps.proofs.PieceTurns.{no-gs, piece, piece-plain}
 
 whole : (p : Bytes) → every plain p ≡ true → take (seek GS p) p ≡ p
 whole p ok = seek-absent GS p (omega (arith, ap (seek GS) (sym (append-nil p)), seek-behind GS p [] (no-gs p ok)))

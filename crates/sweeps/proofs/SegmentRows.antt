@@ -17,15 +17,15 @@ use Rattle.leaves.specs.Seek.{tallyOf}
 use Rattle.leaves.proofs.Turns.{drop-step, tally-behind}
 use Rattle.walk.specs.declared.Stage.the-variants.{Tag, LaterElement, FurtherSubElement}
 use Rattle.walk.specs.declared.Cursor.{Cursor}
-use Rattle.reader.specs.declared.quick.notes.Passed.{Passed}
+use Rattle.sweeps.specs.declared.Passed.{Passed}
 use Rattle.walk.specs.Cursors.{ahead, plainRun, standing, plainRow, afterSegment, afterSubElement, following, nextCursor}
-use Rattle.reader.specs.Quick.{Framed, RunsTo, Noted, NotedOne}
-use Rattle.reader.specs.Segments.{stageBehind, inSegment, laterRows, TagTo, LaterSwept, SegmentSwept}
+use Rattle.sweeps.specs.Quick.{Framed, RunsTo, Noted, NotedOne}
+use Rattle.sweeps.specs.Segments.{stageBehind, inSegment, laterRows, TagTo, LaterSwept, SegmentSwept}
 use Rattle.walk.proofs.Offsets.{ahead-inside}
-use Rattle.reader.proofs.Framing.{more-behind, byte-behind}
+use Rattle.sweeps.proofs.Framing.{more-behind, byte-behind}
 use Rattle.walk.proofs.Walks.{byte-there}
-use Rattle.reader.proofs.PieceTurns.{run-every, tally-none}
-use Rattle.reader.proofs.Sweeping.{run-row, run-ahead}
+use Rattle.sweeps.proofs.PieceTurns.{run-every, tally-none}
+use Rattle.sweeps.proofs.Sweeping.{run-row, run-ahead}
 
 -- Bytes
 

@@ -19,12 +19,12 @@ use Rattle.judge.specs.Shown.{judgedAs, tallied, limited}
 use Rattle.judge.specs.Turns.{resultOf, Sound, TurnSo, boundaryTurn}
 use Rattle.judge.proofs.WalkLaws.{boundary-next, boundary-last, turn-closed, closed-so}
 use Rattle.judge.proofs.JudgeLaws.{judge-walk}
-use Rattle.reader.specs.declared.quick.notes.Passed.{Passed}
-use Rattle.reader.specs.declared.quick.notes.Wanted.{Wanted}
-use Rattle.reader.specs.declared.quick.message.Swept.{Swept}
-use Rattle.reader.specs.declared.quick.message.Swept.the-variants.{Good, Full, Left}
+use Rattle.sweeps.specs.declared.Passed.{Passed}
+use Rattle.sweeps.specs.declared.Wanted.{Wanted}
+use Rattle.sweeps.specs.declared.Swept.{Swept}
+use Rattle.sweeps.specs.declared.Swept.the-variants.{Good, Full, Left}
 use Rattle.walk.specs.Cursors.{indicatorAt, firstCursor}
-use Rattle.reader.specs.Quick.{Headed, Kept, Noted, EnvelopeSwept, FirstAt, SaysNothing, EndsSo, SweptSo}
+use Rattle.sweeps.specs.Quick.{Headed, Kept, Noted, EnvelopeSwept, FirstAt, SaysNothing, EndsSo, SweptSo}
 
 abbrev stateOf : ℕ → Bool → ℕ → ℕ → State
 stateOf at first envelopes rows = record { at = at; first = first; envelopes = envelopes; rows = rows }

@@ -16,9 +16,9 @@ use Rattle.walk.specs.declared.Stage.{Stage}
 use Rattle.walk.specs.declared.Stage.the-variants.{Piece}
 use Rattle.walk.specs.declared.Cursor.{Cursor}
 use Rattle.walk.specs.Cursors.{ahead, plainRun, standing, plainRow, indicatorAt, afterPiece, following, nextCursor}
-use Rattle.reader.specs.Quick.{Framed, RunsTo, PassesTo, Noted, Notable, NotedOne, ElementsOf, BodySwept}
-use Rattle.reader.proofs.Framing.{byte-behind}
-use Rattle.reader.proofs.PieceTurns.{bodyKept, kept-closed, body-on, body-last}
+use Rattle.sweeps.specs.Quick.{Framed, RunsTo, PassesTo, Noted, Notable, NotedOne, ElementsOf, BodySwept}
+use Rattle.sweeps.proofs.Framing.{byte-behind}
+use Rattle.sweeps.proofs.PieceTurns.{bodyKept, kept-closed, body-on, body-last}
 
 -- where the sweep stands: from here on the same is found as from the start, with the rows gone over
 pub record Sweeping (m : Bytes) (from : ℕ) (k : Kind) (f start before : ℕ) (notes : List ℕ) (at rows : ℕ) : Type 0 where

@@ -31,13 +31,13 @@ use Rattle.envelope.proofs.HeaderLaws.{drop-two, read-some}
 use Rattle.envelope.proofs.FormatLaws.{shown-05, shown-06, shown-07}
 use Rattle.walk.specs.declared.Stage.the-variants.{Indicator, Piece, Body}
 use Rattle.walk.specs.declared.Cursor.{Cursor}
-use Rattle.reader.specs.declared.quick.notes.Passed.{Passed}
-use Rattle.reader.specs.declared.quick.notes.Wanted.{Wanted}
+use Rattle.sweeps.specs.declared.Passed.{Passed}
+use Rattle.sweeps.specs.declared.Wanted.{Wanted}
 use Rattle.walk.specs.Shapes.{shapeOf}
 use Rattle.walk.specs.Cursors.{ahead, standing, plainRow, indicatorAt, opening, following, nextCursor}
-use Rattle.reader.specs.Quick.{Framed, Noted, Notable, NotedOne, ElementsOf, BodySwept, FormatSwept, EnvelopeSwept, StandsAt}
-use Rattle.reader.proofs.ElementEnds.{neither}
-use Rattle.reader.proofs.Framing.{byte-behind}
+use Rattle.sweeps.specs.Quick.{Framed, Noted, Notable, NotedOne, ElementsOf, BodySwept, FormatSwept, EnvelopeSwept, StandsAt}
+use Rattle.sweeps.proofs.ElementEnds.{neither}
+use Rattle.sweeps.proofs.Framing.{byte-behind}
 
 module _ (m : Bytes) (at : ℕ) (inside : at < length m) where
   -- one byte further

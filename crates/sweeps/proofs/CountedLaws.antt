@@ -30,15 +30,15 @@ use Rattle.envelope.proofs.FormatLaws.{shown-09}
 use Rattle.walk.specs.declared.Stage.{Stage}
 use Rattle.walk.specs.declared.Stage.the-variants.{TypeValue, CompressionValue, CountValue, Body}
 use Rattle.walk.specs.declared.Cursor.{Cursor}
-use Rattle.reader.specs.declared.quick.counted.Value.{Value}
-use Rattle.reader.specs.declared.quick.notes.Passed.{Passed}
+use Rattle.sweeps.specs.declared.Value.{Value}
+use Rattle.sweeps.specs.declared.Passed.{Passed}
 use Rattle.walk.specs.Shapes.{shapeOf}
 use Rattle.walk.specs.Cursors.{ahead, runOf, plainRun, countFrom, standing, plainRow, indicatorAt, opening, following, nextCursor}
-use Rattle.reader.specs.Quick.{Framed, RunsTo, Noted, Notable, NotedOne, FormatSwept}
-use Rattle.reader.specs.Counted.{Due, PlainBytes, ValueSwept, PartSwept}
+use Rattle.sweeps.specs.Quick.{Framed, RunsTo, Noted, Notable, NotedOne, FormatSwept}
+use Rattle.sweeps.specs.Counted.{Due, PlainBytes, ValueSwept, PartSwept}
 use Rattle.walk.proofs.Offsets.{ahead-inside}
-use Rattle.reader.proofs.Framing.{byte-behind}
-use Rattle.reader.proofs.PieceTurns.{run-every}
+use Rattle.sweeps.proofs.Framing.{byte-behind}
+use Rattle.sweeps.proofs.PieceTurns.{run-every}
 
 -- Runs
 

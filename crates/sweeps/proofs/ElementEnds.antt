@@ -14,10 +14,10 @@ use Rattle.label.specs.Elements.{capitalAndMore, afterDigits, element06}
 use Rattle.label.proofs.Tests.{both, and-both, Implies}
 use Rattle.leaves.proofs.Turns.{drop-step}
 use Rattle.walk.specs.Cursors.{plainRun}
-use Rattle.reader.specs.Quick.{Framed, digitRun, RunsTo, PassesTo}
+use Rattle.sweeps.specs.Quick.{Framed, digitRun, RunsTo, PassesTo}
 use Rattle.walk.proofs.Offsets.{run-by}
 use Rattle.walk.proofs.Shaped.{digit-plain}
-use Rattle.reader.proofs.Framing.{class-behind}
+use Rattle.sweeps.proofs.Framing.{class-behind}
 
 -- neither of two tests holds
 pub neither : (a b : Bool) → (a || b) ≡ false → (a ≡ false) × (b ≡ false)

@@ -10,11 +10,11 @@ use Rattle.leaves.specs.Classes.{classOf}
 use Rattle.envelope.specs.declared.Found.{Found}
 use Rattle.envelope.specs.declared.Found.the-variants.{Closed}
 use Rattle.envelope.specs.Headers.{valueEnd}
-use Rattle.reader.specs.declared.quick.counted.Value.{Value}
-use Rattle.reader.specs.declared.quick.notes.Passed.{Passed}
+use Rattle.sweeps.specs.declared.Value.{Value}
+use Rattle.sweeps.specs.declared.Passed.{Passed}
 use Rattle.walk.specs.declared.Stage.{Stage}
 use Rattle.walk.specs.Cursors.{plainRow, indicatorAt, following}
-use Rattle.reader.specs.Quick.{Framed, RunsTo, Noted}
+use Rattle.sweeps.specs.Quick.{Framed, RunsTo, Noted}
 
 -- the walk stands at a header value of 09 from an offset on, and there is room for so many rows
 pub record Due (m : Bytes) (from : ℕ) (stage : Stage) (at rows room : ℕ) (notes : List ℕ) : Type 0 where

@@ -16,7 +16,7 @@ use Rattle.walk.specs.declared.Stage.{Stage}
 use Rattle.walk.specs.declared.Stage.the-variants.{Indicator, VersionValue, ReleaseValue, TypeValue, CompressionValue, CountValue, Piece, Tag, LaterElement, FurtherSubElement, Body}
 use Rattle.walk.specs.declared.Cursor.{Cursor}
 use Rattle.walk.specs.Cursors.{kindOf, rowOf, nextCursor}
-use Rattle.reader.specs.Quick.{cursorAfter, Holds, NotedOne}
+use Rattle.sweeps.specs.Quick.{cursorAfter, Holds, NotedOne}
 
 -- kinds are small numbers
 pub kind-small : (s : Stage) → kindOf s ≤ 7

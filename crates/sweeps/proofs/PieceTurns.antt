@@ -28,7 +28,7 @@ use Rattle.envelope.specs.declared.Found.the-variants.{Closed, Refused}
 use Rattle.faults.specs.PieceFaults.{faultOf}
 use Rattle.envelope.specs.Bodies.{faultFound, bodyFound}
 use Rattle.walk.specs.Cursors.{runOf, plainRun}
-use Rattle.reader.specs.Quick.{RunsTo, PassesTo, ElementsOf}
+use Rattle.sweeps.specs.Quick.{RunsTo, PassesTo, ElementsOf}
 
 -- the bytes of a run are of its class
 pub run-every : (class : ℕ → Bool) (bs : Bytes) → every class (take (runOf class bs) bs) ≡ true

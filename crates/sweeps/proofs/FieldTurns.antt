@@ -26,11 +26,11 @@ use Rattle.envelope.specs.declared.Found.the-variants.{Closed}
 use Rattle.walk.specs.declared.Stage.the-variants.{Piece}
 use Rattle.walk.specs.declared.Cursor.{Cursor}
 use Rattle.walk.specs.Cursors.{standing, plainRow, indicatorAt, nextCursor}
-use Rattle.reader.specs.Quick.{Framed, PassesTo, Noted, NotedOne, BodySwept}
-use Rattle.reader.specs.Transport.{FieldsOf, LastRight}
-use Rattle.reader.proofs.Framing.{byte-behind}
-use Rattle.reader.proofs.PieceTurns.{tally-none, no-gs, found-by, bodyKept, kept-closed, Passes, found-from, piece, piece-plain, piece-long, message-on, message-last}
-use Rattle.reader.proofs.Sweeping.{piece-noted, piece-next, piece-last}
+use Rattle.sweeps.specs.Quick.{Framed, PassesTo, Noted, NotedOne, BodySwept}
+use Rattle.sweeps.specs.Transport.{FieldsOf, LastRight}
+use Rattle.sweeps.proofs.Framing.{byte-behind}
+use Rattle.sweeps.proofs.PieceTurns.{tally-none, no-gs, found-by, bodyKept, kept-closed, Passes, found-from, piece, piece-plain, piece-long, message-on, message-last}
+use Rattle.sweeps.proofs.Sweeping.{piece-noted, piece-next, piece-last}
 
 -- Fields from an index on
 

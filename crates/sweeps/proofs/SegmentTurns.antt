@@ -33,14 +33,14 @@ use Rattle.envelope.proofs.FormatTests.{segments-body}
 use Rattle.envelope.proofs.FormatLaws.{shown-03, shown-04}
 use Rattle.walk.specs.declared.Stage.the-variants.{Tag, ReleaseValue}
 use Rattle.walk.specs.declared.Cursor.{Cursor}
-use Rattle.reader.specs.declared.quick.notes.Passed.{Passed}
+use Rattle.sweeps.specs.declared.Passed.{Passed}
 use Rattle.walk.specs.Shapes.{shapeOf}
 use Rattle.walk.specs.Cursors.{ahead, standing, plainRow, indicatorAt, opening, afterSegment, following, nextCursor}
-use Rattle.reader.specs.Quick.{Framed, Noted, NotedOne, BodySwept, FormatSwept}
-use Rattle.reader.specs.Segments.{segmentsKind, inSegment, laterRows, SegmentSwept}
+use Rattle.sweeps.specs.Quick.{Framed, Noted, NotedOne, BodySwept, FormatSwept}
+use Rattle.sweeps.specs.Segments.{segmentsKind, inSegment, laterRows, SegmentSwept}
 use Rattle.walk.proofs.Offsets.{ahead-inside}
-use Rattle.reader.proofs.Framing.{byte-behind}
-use Rattle.reader.proofs.PieceTurns.{every-front, tally-none, found-by}
+use Rattle.sweeps.proofs.Framing.{byte-behind}
+use Rattle.sweeps.proofs.PieceTurns.{every-front, tally-none, found-by}
 
 -- Bytes of a segment
 

@@ -24,10 +24,10 @@ use Rattle.envelope.specs.Shown.{shown}
 use Rattle.envelope.proofs.FormatLaws.{shown-01}
 use Rattle.walk.specs.declared.Stage.the-variants.{VersionValue, Piece}
 use Rattle.walk.specs.declared.Cursor.{Cursor}
-use Rattle.reader.specs.declared.quick.notes.Passed.{Passed}
+use Rattle.sweeps.specs.declared.Passed.{Passed}
 use Rattle.walk.specs.Shapes.{shapeOf}
 use Rattle.walk.specs.Cursors.{standing, plainRow, opening, following, nextCursor}
-use Rattle.reader.specs.Quick.{Noted, Notable, NotedOne, FirstAt, BodySwept, FormatSwept}
+use Rattle.sweeps.specs.Quick.{Noted, Notable, NotedOne, FirstAt, BodySwept, FormatSwept}
 use Rattle.walk.proofs.Offsets.{ahead-inside}
 
 -- what the code asks first: the envelope is the first one, a row more is wanted, and there is room for the version and a byte behind it

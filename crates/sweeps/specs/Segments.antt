@@ -15,10 +15,10 @@ use Rattle.pieces.specs.declared.Kind.the-variants.{Segments03, Segments04}
 use Rattle.walk.specs.declared.Stage.{Stage}
 use Rattle.walk.specs.declared.Stage.the-variants.{LaterElement, FurtherSubElement}
 use Rattle.walk.specs.declared.Cursor.{Cursor}
-use Rattle.reader.specs.declared.quick.notes.Passed.{Passed}
-use Rattle.reader.specs.declared.quick.notes.Wanted.{Wanted}
+use Rattle.sweeps.specs.declared.Passed.{Passed}
+use Rattle.sweeps.specs.declared.Wanted.{Wanted}
 use Rattle.walk.specs.Cursors.{afterSegment}
-use Rattle.reader.specs.Quick.{Framed, RunsTo, Noted}
+use Rattle.sweeps.specs.Quick.{Framed, RunsTo, Noted}
 
 -- the kind of body of format 03, and of 04
 abbrev pub segmentsKind : ℕ → Kind

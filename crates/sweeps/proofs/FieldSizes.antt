@@ -14,7 +14,7 @@ use Rattle.pieces.specs.declared.Kind.{Kind}
 use Rattle.pieces.specs.declared.Kind.the-variants.{Fields02, Fields96, Segments03, Segments04, Elements05, Elements06, Text}
 use Rattle.pieces.specs.PieceTests.{pieceTest}
 use Rattle.pieces.proofs.FieldLaws.{plain-column, no-bytes}
-use Rattle.reader.specs.Transport.{fitsIn, sizeFits}
+use Rattle.sweeps.specs.Transport.{fitsIn, sizeFits}
 
 module _ (i : ℕ) (other : (((eqb i 8 || eqb i 10) || eqb i 1) || eqb i 6) ≡ false) (p : Bytes) (ok : every plain p ≡ true) where
   column : getD fieldBytes i (every plain) p ≡ true

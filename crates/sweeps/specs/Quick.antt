@@ -22,10 +22,10 @@ use Rattle.envelope.specs.Shown.{shown}
 use Rattle.envelope.specs.Bodies.{bodyFound}
 use Rattle.judge.specs.Shown.{judgedAs}
 use Rattle.walk.specs.declared.Cursor.{Cursor}
-use Rattle.reader.specs.declared.quick.notes.Passed.{Passed}
-use Rattle.reader.specs.declared.quick.notes.Wanted.{Wanted}
-use Rattle.reader.specs.declared.quick.message.Swept.{Swept}
-use Rattle.reader.specs.declared.quick.message.Swept.the-variants.{Good, Full, Left}
+use Rattle.sweeps.specs.declared.Passed.{Passed}
+use Rattle.sweeps.specs.declared.Wanted.{Wanted}
+use Rattle.sweeps.specs.declared.Swept.{Swept}
+use Rattle.sweeps.specs.declared.Swept.the-variants.{Good, Full, Left}
 use Rattle.walk.specs.Cursors.{runOf, rowOf, indicatorAt, firstCursor, nextCursor}
 
 -- a message that ends with EOT: a run of bytes of a class without EOT ends before the message does
