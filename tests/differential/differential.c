@@ -607,11 +607,13 @@ static void end_envelope(label *l)
 
 enum { VERSION_02, VERSION_96 };
 
-/* Least and greatest lengths of fields 1 to 15 by the table of document 01. */
+/* Least and greatest lengths of fields 1 to 15 by the table of document 01, the
+ * weight's by document 02's No. 2. */
 static size_t least_of_field(unsigned version, unsigned field)
 {
-    static const uint8_t least[FIELDS] = {3, 3, 1, 1, 2, 1, 3, 1, 3, 1, 1, 1, 1, 2, 1};
-    return version == VERSION_02 && field == 1 ? 0 : least[field - 1];
+    static const uint8_t least[2][FIELDS] = {{0, 3, 1, 1, 2, 1, 3, 1, 3, 3, 1, 1, 1, 2, 1},
+                                             {3, 3, 1, 1, 2, 1, 3, 1, 3, 1, 1, 1, 1, 2, 1}};
+    return least[version][field - 1];
 }
 
 static size_t greatest_of_field(unsigned field)
@@ -625,10 +627,35 @@ static unsigned fields_of(unsigned version)
     return version == VERSION_02 ? 15 : 14;
 }
 
-/* A field's bytes are right whenever its length is. */
-static void put_field(label *l, unsigned field, size_t length)
+/* A weight's number: digits, and mostly a point in front, among them or behind;
+ * a single byte is a digit. */
+static void put_number(label *l, size_t length)
 {
     size_t start = l->length;
+    put_digits(l, length);
+    if (length > 1 && !one_in(3)) {
+        l->bytes[start + some_length(0, length - 1)] = '.';
+    }
+}
+
+static void put_unit(label *l)
+{
+    put_string(l, one_in(2) ? "LB" : "KG");
+}
+
+/* A single byte has no room for a unit. */
+static void put_weight(label *l, unsigned version, size_t length)
+{
+    size_t unit = version == VERSION_02 && length >= 2 ? 2 : 0;
+    put_number(l, length - unit);
+    if (unit > 0) {
+        put_unit(l);
+    }
+}
+
+/* A field's bytes are right whenever its length is. */
+static void put_field(label *l, unsigned version, unsigned field, size_t length)
+{
     if (field == 2 || field == 7) {
         put_digits(l, length);
     } else if (field == 9 && length >= 2) {
@@ -639,6 +666,8 @@ static void put_field(label *l, unsigned field, size_t length)
         put_digits(l, left);
         put(l, '/');
         put_digits(l, length - left - 1);
+    } else if (field == 10) {
+        put_weight(l, version, length);
     } else if (field == 11) {
         while (length-- > 0) {
             put(l, one_of("YN"));
@@ -646,7 +675,6 @@ static void put_field(label *l, unsigned field, size_t length)
     } else {
         put_text(l, length);
     }
-    note_row(l, 3, 1, start);
 }
 
 static void put_header_01(label *l, unsigned version)
@@ -661,11 +689,13 @@ static void put_header_01(label *l, unsigned version)
 /* A later field may be empty, unless it is the last. */
 static void put_good_field(label *l, unsigned version, unsigned field, bool is_last)
 {
+    size_t start = l->length;
     size_t length = some_length(least_of_field(version, field), greatest_of_field(field));
     if (field > 5 && !is_last && one_in(2)) {
         length = 0;
     }
-    put_field(l, field, length);
+    put_field(l, version, field, length);
+    note_row(l, 3, 1, start);
 }
 
 static void put_good_fields(label *l, unsigned version, unsigned count)
@@ -1402,21 +1432,69 @@ static bool can_have(unsigned version, unsigned field, uint32_t fault)
     switch (fault) {
     case 31: return least_of_field(version, field) > (field > 5 ? 1u : 0u);
     case 32: return true;
-    default: return field == 2 || field == 7 || field == 9 || field == 11;
+    default: return field == 2 || field == 7 || (field >= 9 && field <= 11);
     }
 }
 
-/* Where the length is wrong, the bytes may be too: that must not matter. */
+/* Where the length is wrong, the bytes may be too, or be those of the other
+ * version: that must not matter. */
 static void put_wrong_length(label *l, unsigned field, size_t length)
 {
     if (one_in(2)) {
-        put_field(l, field, length);
+        put_field(l, (unsigned)below(2), field, length);
     } else {
         put_text(l, length);
     }
 }
 
-static void put_wrong_bytes(label *l, unsigned field)
+/* Two points, a point alone, or a byte that is neither digit nor point. */
+static void put_wrong_number(label *l, size_t length)
+{
+    size_t start = l->length;
+    put_number(l, length);
+    if (one_in(3)) {
+        l->bytes[start + below(length)] = one_of(" ,/:+-eOLBKG");
+        return;
+    }
+    size_t first = below(length), second = length == 1 ? first : first + between(1, length - 1);
+    l->bytes[start + first] = '.';
+    l->bytes[start + second % length] = '.';
+}
+
+/* A number and what is no unit behind it, of a length that a weight may have.
+ * What has three bytes may stand alone. */
+static void put_wrong_unit(label *l, unsigned version, const char *unit)
+{
+    size_t least = least_of_field(version, 10), length = strlen(unit);
+    size_t least_number = least > length ? least - length : 0;
+    put_number(l, some_length(least_number, greatest_of_field(10) - length));
+    put_string(l, unit);
+}
+
+/* Version 02 with no unit and version 96 with one; what is a unit in neither; a
+ * wrong number with what its version has behind it. */
+static void put_wrong_weight(label *l, unsigned version)
+{
+    static const char *const wrong[] = {
+        "lb", "kg", "Lb", "lB", "Kg", "kG", " LB", " KG", "LB ", "KG ", "LBS", "KGS",
+        "LG", "KB", "BL", "GK", "L", "G", "LBLB", "KGLB", "#", "L.B", "K.", "OZ"};
+    switch (below(3)) {
+    case 0:
+        put_wrong_unit(l, version, version == VERSION_02 ? "" : one_in(2) ? "LB" : "KG");
+        break;
+    case 1: put_wrong_unit(l, version, wrong[below(sizeof wrong / sizeof wrong[0])]); break;
+    default:
+        if (version == VERSION_96) {
+            put_wrong_number(l, some_length(1, 10));
+        } else {
+            put_wrong_number(l, some_length(1, 8));
+            put_unit(l);
+        }
+        break;
+    }
+}
+
+static void put_wrong_bytes(label *l, unsigned version, unsigned field)
 {
     static const char *const wrong[] = {
         "12345/1", "1/12345", "/12", "12/", "123", "1-2", "1//2", "1/2/3", "a/1",
@@ -1424,6 +1502,7 @@ static void put_wrong_bytes(label *l, unsigned field)
     size_t start = l->length;
     switch (field) {
     case 9: put_string(l, wrong[below(16)]); break;
+    case 10: put_wrong_weight(l, version); break;
     case 11: put(l, one_of("XynMOZ 01")); break;
     default: /* the digits of 2 and 7 */
         put_digits(l, 3);
@@ -1434,12 +1513,14 @@ static void put_wrong_bytes(label *l, unsigned field)
 
 static void put_faulty_field(label *l, unsigned version, unsigned field, uint32_t fault)
 {
+    size_t start = l->length;
     size_t least = least_of_field(version, field), greatest = greatest_of_field(field);
     switch (fault) {
     case 31: put_wrong_length(l, field, some_length(field > 5 ? 1 : 0, least - 1)); break;
     case 32: put_wrong_length(l, field, greatest + (one_in(2) ? 1 : between(1, 20))); break;
-    default: put_wrong_bytes(l, field); break;
+    default: put_wrong_bytes(l, version, field); break;
     }
+    note_row(l, 3, 1, start);
 }
 
 /* A good field, or one that has any fault of its own. */
@@ -1851,6 +1932,25 @@ static void case_row_limit_read(void)
 
 /* ---- Random bytes ---- */
 
+/* Good fields, and then a weight of the bytes that weights are made of. */
+static void random_weight(label *l)
+{
+    unsigned version = (unsigned)below(2);
+    open_message(l);
+    put_header_01(l, version);
+    for (unsigned field = 1; field < 10; field++) {
+        put_good_field(l, version, field, false);
+        put(l, GS);
+    }
+    for (size_t length = below(11); length > 0; length--) {
+        put(l, one_of("0123456789..LBKG"));
+    }
+    if (one_in(2)) {
+        put_unit(l);
+    }
+    put_string(l, "\x1E\x04");
+}
+
 static void random_message(label *l)
 {
     open_message(l);
@@ -1889,7 +1989,11 @@ static void random_message(label *l)
 static void case_random_read(void)
 {
     label *l = &the_label;
-    random_message(l);
+    if (one_in(6)) {
+        random_weight(l);
+    } else {
+        random_message(l);
+    }
     compare_read(l->bytes, l->length, one_in(2) ? below(41) : 400, &nothing_known);
 }
 
@@ -2183,9 +2287,18 @@ static uint32_t spoil(order *o)
     }
 }
 
-static void case_false_write(void)
+/* The rows of a label with a faulty field, which no good message has. */
+static uint32_t faulty_rows(order *o)
 {
-    order *o = &the_order;
+    size_t place;
+    miss_field(&the_label, &place, (uint32_t)between(31, 33));
+    make_order(o, &the_label);
+    return 21;
+}
+
+/* A good message's rows, spoilt. */
+static uint32_t spoilt_rows(order *o)
+{
     good_message(&the_label);
     make_order(o, &the_label);
     uint32_t known = spoil(o);
@@ -2193,6 +2306,13 @@ static void case_false_write(void)
         spoil(o);
         known = NOT_KNOWN;
     }
+    return known;
+}
+
+static void case_false_write(void)
+{
+    order *o = &the_order;
+    uint32_t known = one_in(6) ? faulty_rows(o) : spoilt_rows(o);
     compare_write(o->data, o->data_length, o->rows, o->rows_length, some_output(o->message_length),
                   known);
 }

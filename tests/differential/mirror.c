@@ -42,6 +42,16 @@
  * SPOILT 38: a faulty field stands before 10
  * SPOILT 39: an empty fifth field at the end is a wrong number of fields
  * SPOILT 40: a fifteenth field of version 96 is too long
+ * SPOILT 41: a weight of version 02 needs no unit
+ * SPOILT 42: a weight may have two points
+ * SPOILT 43: a point alone is a weight's number
+ * SPOILT 44: a weight of version 96 may have a unit
+ * SPOILT 45: a weight's unit may have small letters
+ * SPOILT 46: the least length of a weight of version 02 is 1
+ * SPOILT 47: a space may stand before a weight's unit
+ * SPOILT 48: a weight can't begin with its point
+ * SPOILT 49: a weight's number can't end with its point
+ * SPOILT 50: the writer takes a weight of version 02 that has no unit
  */
 #include "zielorad.h"
 
@@ -90,16 +100,14 @@ static uint32_t number_of(const char *front, const uint8_t *piece, size_t length
     return reference_read(message, at + strlen(behind), rows, AMPLE).number;
 }
 
-/* The fault that a field has on its own, among good ones: 31 to 33, or 0. */
-static uint32_t fault_of_field(const uint8_t *version, unsigned field, const uint8_t *piece,
-                               size_t length)
+/* The reference's number for a label of good fields and this one. An omitted
+ * weight is good in both versions. */
+static uint32_t number_of_field(const uint8_t *version, unsigned field, const uint8_t *piece,
+                                size_t length)
 {
     static const char *const good[14] = {"91521", "840", "021", "1Z", "FDEG", "S", "189", "S",
-                                         "1/1", "5", "N", "S", "C", "CA"};
+                                         "1/1", "", "N", "S", "C", "CA"};
     char front[100] = "[)>\x1E" "01\x1D", behind[100] = "";
-    if (field > 15 || (field > 5 && length == 0)) {
-        return 0;
-    }
     strncat(front, (const char *)version, 2);
     for (unsigned i = 1; i < field; i++) {
         strcat(strcat(front, good[i - 1]), "\x1D");
@@ -107,7 +115,17 @@ static uint32_t fault_of_field(const uint8_t *version, unsigned field, const uin
     for (unsigned i = field + 1; i <= 14; i++) {
         strcat(strcat(behind, "\x1D"), good[i - 1]);
     }
-    uint32_t number = number_of(front, piece, length, strcat(behind, "\x1E\x04"));
+    return number_of(front, piece, length, strcat(behind, "\x1E\x04"));
+}
+
+/* The fault that a field has on its own, among good ones: 31 to 33, or 0. */
+static uint32_t fault_of_field(const uint8_t *version, unsigned field, const uint8_t *piece,
+                               size_t length)
+{
+    if (field > 15 || (field > 5 && length == 0)) {
+        return 0;
+    }
+    uint32_t number = number_of_field(version, field, piece, length);
     return number >= 31 && number <= 33 ? number : 0;
 }
 
@@ -191,6 +209,9 @@ static zielorad_reading fields_spoilt(const uint8_t *message, zielorad_reading a
         message[last] != RS) {
         return faulty_field(message, false, refusal(32, (uint32_t)last));
     }
+    if (SPOILT == 46 && answer.number == 31 && field == 10) {
+        answer.number = 33;
+    }
     return answer;
 }
 
@@ -221,11 +242,105 @@ static zielorad_reading elements_spoilt(const uint8_t *message, zielorad_reading
     return answer;
 }
 
+/* ---- Weights (document 02, No. 2) ---- */
+
+/* Where the tenth field of a label of format 01 starts, or 0 if there is none. */
+static size_t weight_in(const uint8_t *message, size_t length)
+{
+    if (length < FIELDS_01 || memcmp(message, "[)>\x1E" "01\x1D", VERSION_01) != 0 ||
+        memchr(message + FIELDS_01, RS, length - FIELDS_01) == NULL) {
+        return 0;
+    }
+    size_t at = FIELDS_01;
+    for (unsigned field = 1; field < 10; field++) {
+        at = end_of_piece(message, at) + 1;
+        if (message[at - 1] == RS) {
+            return 0;
+        }
+    }
+    return at;
+}
+
+/* A weight that only the other version takes, with a unit or without, gives way
+ * to one that this version takes, as long as it was. */
+static void change_version(bool is_02, uint8_t *weight, size_t length)
+{
+    const char *other = is_02 ? "96" : "02", *good = is_02 ? "00000000LB" : "0000000000";
+    if (length <= 10 && number_of_field((const uint8_t *)other, 10, weight, length) == 0) {
+        memcpy(weight, good + 10 - length, length);
+    }
+}
+
+static size_t points_in(const uint8_t *bytes, size_t length)
+{
+    size_t points = 0;
+    for (size_t i = 0; i < length; i++) {
+        points += bytes[i] == '.';
+    }
+    return points;
+}
+
+static void make_capitals(uint8_t *bytes, size_t length)
+{
+    for (size_t i = 0; i < length; i++) {
+        if (bytes[i] >= 'a' && bytes[i] <= 'z') {
+            bytes[i] = (uint8_t)(bytes[i] - 'a' + 'A');
+        }
+    }
+}
+
+/* Makes a good weight of what the error takes and a wrong one of what it
+ * refuses, each as long as it was, so that the rows stay. */
+static void amend_weight(bool is_02, uint8_t *weight, size_t length)
+{
+    size_t number = is_02 && length > 2 ? length - 2 : length;
+    uint8_t *point = memchr(weight, '.', number);
+    uint8_t *last = weight + number - 1;
+
+    if (SPOILT == (is_02 ? 41 : 44)) {
+        change_version(is_02, weight, length);
+    }
+    if (SPOILT == 42 && number > 2 && points_in(weight, number) == 2) {
+        *point = '0';
+    }
+    if (SPOILT == 43 && number == 1 && point != NULL) {
+        *point = '0';
+    }
+    if (SPOILT == 45) {
+        make_capitals(weight, length);
+    }
+    if (SPOILT == 47 && is_02 && number > 1 && *last == ' ') {
+        *last = '0';
+    }
+    if (SPOILT == 48 && point == weight) {
+        *point = '?';
+    }
+    if (SPOILT == 49 && *last == '.') {
+        *last = '?';
+    }
+}
+
+/* The message as the reference has to read it, to answer as the error would. */
+static const uint8_t *amended(const uint8_t *message, size_t length)
+{
+    static uint8_t copy[4096];
+    size_t weight = length > sizeof copy ? 0 : weight_in(message, length);
+    if (weight == 0) {
+        return message;
+    }
+    memcpy(copy, message, length);
+    amend_weight(copy[VERSION_01] == '0', copy + weight, end_of_piece(copy, weight) - weight);
+    return copy;
+}
+
 /* ---- The reader ---- */
 
 /* A reading with ample room, altered as an error of the reader would. */
 static zielorad_reading read_spoilt(const uint8_t *message, size_t length, uint32_t *rows)
 {
+    if (SPOILT >= 41) {
+        message = amended(message, length);
+    }
     reference_reading read = reference_read(message, length, rows, AMPLE);
     zielorad_reading answer = {read.number, read.place, read.envelopes, read.rows};
     uint32_t indicator = 0, kept = 0;
@@ -375,12 +490,44 @@ static uint32_t without_zeros(uint8_t *output, uint32_t count)
     return count;
 }
 
+/* For rows that are refused: the answer if a weight of version 02 needs no unit.
+ * A good weight is written in its place, and then its own bytes over that. */
+static reference_written write_without_unit(const uint8_t *data, size_t data_length,
+                                            const uint32_t *rows, size_t rows_length,
+                                            uint8_t *output, size_t output_length)
+{
+    enum { WEIGHT = 4 * 11 }; /* indicator, version and nine fields stand before it */
+    static uint8_t longer_data[32768];
+    static uint32_t numbers[AMPLE];
+    reference_written written = {21, 0};
+    if (rows_length <= WEIGHT || rows[WEIGHT] != 3 || rows[WEIGHT + 1] != 1) {
+        return written;
+    }
+    size_t length = rows[WEIGHT + 3];
+    const uint8_t *weight = data + rows[WEIGHT + 2];
+    memcpy(longer_data, data, data_length);
+    memcpy(longer_data + data_length, weight, length);
+    change_version(true, longer_data + data_length, length);
+    memcpy(numbers, rows, rows_length * 4);
+    numbers[WEIGHT + 2] = (uint32_t)data_length;
+    written = reference_write(longer_data, data_length + length, numbers, rows_length,
+                              output, output_length);
+    if (written.number == 0) {
+        reference_read(output, written.count, numbers, AMPLE);
+        memcpy(output + numbers[WEIGHT + 2], weight, length);
+    }
+    return written;
+}
+
 zielorad_written zielorad_write(const uint8_t *data, size_t data_length,
                                 const uint32_t *rows, size_t rows_length,
                                 uint8_t *output, size_t output_length)
 {
     reference_written written = reference_write(data, data_length, rows, rows_length,
                                                 output, output_length);
+    if (SPOILT == 50 && written.number == 21) {
+        written = write_without_unit(data, data_length, rows, rows_length, output, output_length);
+    }
     zielorad_written answer = {written.number, written.count};
 
     if (SPOILT == 5 && answer.number == 0) {

@@ -127,7 +127,9 @@ static size_t header_09(const uint8_t *message, size_t length, size_t at,
     return count_end + 1;
 }
 
-/* "01: GS, version 02 or 96". The row of the limits: 0 for 02, 1 for 96. */
+enum { VERSION_02, VERSION_96 };
+
+/* "01: GS, version 02 or 96". */
 static size_t header_01(const uint8_t *message, size_t length, size_t at,
                         row_list *rows, size_t *version)
 {
@@ -135,9 +137,9 @@ static size_t header_01(const uint8_t *message, size_t length, size_t at,
         return 0;
     }
     if (message[at + 1] == '0' && message[at + 2] == '2') {
-        *version = 0;
+        *version = VERSION_02;
     } else if (message[at + 1] == '9' && message[at + 2] == '6') {
-        *version = 1;
+        *version = VERSION_96;
     } else {
         return 0;
     }
@@ -283,10 +285,11 @@ static bool elements_stand(const uint8_t *message, size_t start, size_t end,
 
 enum { MOST_FIELDS = 15, MANDATORY_FIELDS = 5 };
 
-/* Least and greatest length by version (02, then 96) and field. */
+/* Least and greatest length by version and field. By 02, No. 2, a weight of
+ * version 02 ends with its unit, so it has at least three bytes. */
 static const size_t field_limits[2][MOST_FIELDS][2] = {
     {{0, 11}, {3, 3}, {1, 3}, {1, 20}, {2, 4}, {1, 10}, {3, 3}, {1, 30},
-     {3, 9}, {1, 10}, {1, 1}, {1, 35}, {1, 35}, {2, 2}, {1, 35}},
+     {3, 9}, {3, 10}, {1, 1}, {1, 35}, {1, 35}, {2, 2}, {1, 35}},
     {{3, 11}, {3, 3}, {1, 3}, {1, 20}, {2, 4}, {1, 10}, {3, 3}, {1, 30},
      {3, 9}, {1, 10}, {1, 1}, {1, 35}, {1, 35}, {2, 2}, {0, 0}}
 };
@@ -317,8 +320,34 @@ static bool is_n_of_x(const uint8_t *message, size_t start, size_t end)
            all_digits(message, start, slash) && all_digits(message, slash + 1, end);
 }
 
+/* 02, No. 2, for both versions: a digit at least, a point at most, nothing else. */
+static bool is_number_of_weight(const uint8_t *message, size_t start, size_t end)
+{
+    size_t digits = 0;
+    size_t points = 0;
+    for (size_t i = start; i < end; i++) {
+        digits += is_digit(message[i]);
+        points += message[i] == '.';
+    }
+    return digits + points == end - start && digits >= 1 && points <= 1;
+}
+
+/* 02, No. 2: version 02 has pounds or kilograms right behind the number, and
+ * version 96 the number alone. Three bytes are there in version 02. */
+static bool is_weight(const uint8_t *message, size_t start, size_t end, size_t version)
+{
+    if (version == VERSION_96) {
+        return is_number_of_weight(message, start, end);
+    }
+    size_t unit = end - 2;
+    bool is_pounds = message[unit] == 'L' && message[unit + 1] == 'B';
+    bool is_kilograms = message[unit] == 'K' && message[unit + 1] == 'G';
+    return (is_pounds || is_kilograms) && is_number_of_weight(message, start, unit);
+}
+
 /* The bytes of a field whose length is right and that are known to be plain. */
-static bool field_bytes_stand(const uint8_t *message, size_t start, size_t end, size_t number)
+static bool field_bytes_stand(const uint8_t *message, size_t start, size_t end,
+                              size_t version, size_t number)
 {
     switch (number) {
     case 2:
@@ -326,6 +355,8 @@ static bool field_bytes_stand(const uint8_t *message, size_t start, size_t end, 
         return all_digits(message, start, end);
     case 9:
         return is_n_of_x(message, start, end);
+    case 10:
+        return is_weight(message, start, end, version);
     case 11:
         return message[start] == 'Y' || message[start] == 'N';
     default:
@@ -345,7 +376,7 @@ static uint32_t field_fault(const uint8_t *message, size_t start, size_t end,
     if (length > field_limits[version][number - 1][1]) {
         return 32;
     }
-    return field_bytes_stand(message, start, end, number) ? 0 : 33;
+    return field_bytes_stand(message, start, end, version, number) ? 0 : 33;
 }
 
 /* "Fields split by GS": the answer is how many there are, and the first 15 ends
@@ -441,7 +472,7 @@ static uint32_t read_envelope(const uint8_t *message, size_t length, size_t indi
 
     size_t header = indicator + 2;
     size_t body = header;
-    size_t version = 0;
+    size_t version = VERSION_02;
     uint64_t payload_length = 0;
     switch (format) {
     case 1:
