@@ -7,6 +7,16 @@ zielorad_written __real_zielorad_write(const uint8_t *data, size_t data_length, 
                                        size_t output_length);
 zielorad_part __real_zielorad_part_of(const uint8_t *message, size_t message_length, size_t row);
 
+/* How many fields of format 01 stand before a place. */
+static size_t fields_before(const uint8_t *message, size_t place)
+{
+    size_t separators = 0;
+    for (size_t i = 7; i < place; i++) {
+        separators += message[i] == 0x1D;
+    }
+    return separators;
+}
+
 zielorad_reading __wrap_zielorad_read(const uint8_t *message, size_t message_length, uint32_t *table, size_t table_length)
 {
     zielorad_reading answer = __real_zielorad_read(message, message_length, table, table_length);
@@ -24,6 +34,9 @@ zielorad_reading __wrap_zielorad_read(const uint8_t *message, size_t message_len
     }
     if (SPOILT == 9 && answer.number == 32) {
         answer.place++; /* too long a field, at another place */
+    }
+    if (SPOILT == 10 && answer.number == 33 && message[7] == '0' && fields_before(message, answer.place) == 9) {
+        answer = (zielorad_reading){0, 0, 1, 12}; /* a weight of version 02 taken without its unit */
     }
     return answer;
 }
