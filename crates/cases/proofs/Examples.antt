@@ -20,8 +20,12 @@ leastTransport = fields 1 version02 ([] ∷ ascii "840" ∷ ascii "1" ∷ ascii 
 abbrev mostTransport02 : Envelope
 mostTransport02 =
     fields 1 version02
-    (ascii "841706672" ∷ ascii "840" ∷ ascii "001" ∷ ascii "1Z12345675" ∷ ascii "UPSN" ∷ ascii "12345E" ∷ ascii "089" ∷ [] ∷ ascii "1/1" ∷ ascii "10"
+    (ascii "841706672" ∷ ascii "840" ∷ ascii "001" ∷ ascii "1Z12345675" ∷ ascii "UPSN" ∷ ascii "12345E" ∷ ascii "089" ∷ [] ∷ ascii "1/1" ∷ ascii "12.5LB"
     ∷ ascii "Y" ∷ ascii "STREET" ∷ ascii "CITY" ∷ ascii "UT" ∷ ascii "NAME" ∷ [])
+
+-- 01: a weight in the other unit, as the last field
+abbrev kilograms : Envelope
+kilograms = fields 1 version02 ([] ∷ ascii "840" ∷ ascii "1" ∷ ascii "1Z" ∷ ascii "UPSN" ∷ [] ∷ [] ∷ [] ∷ [] ∷ ascii "5KG" ∷ [])
 
 -- 01: all fourteen fields of version 96
 abbrev mostTransport96 : Envelope
@@ -69,6 +73,7 @@ abbrev pub examples : List (List Envelope)
 examples =
     (leastTransport ∷ [])
     ∷ (mostTransport02 ∷ [])
+    ∷ (kilograms ∷ [])
     ∷ (mostTransport96 ∷ [])
     ∷ (rest ∷ [])
     ∷ (segments03 ∷ [])
@@ -91,6 +96,10 @@ least-transport-within = record { known = refl; plainBytes = refl; asStated = re
 most-transport-02-within : Within edition2005 mostTransport02
 unfolding all-definitions
 most-transport-02-within = record { known = refl; plainBytes = refl; asStated = refl }
+
+kilograms-within : Within edition2005 kilograms
+unfolding all-definitions
+kilograms-within = record { known = refl; plainBytes = refl; asStated = refl }
 
 most-transport-96-within : Within edition2005 mostTransport96
 unfolding all-definitions
@@ -137,6 +146,7 @@ unfolding all-definitions
 the-examples-are-good =
     good _ _ (least-transport-within and tt) refl refl refl tt tt refl
     and good _ _ (most-transport-02-within and tt) refl refl refl tt tt refl
+    and good _ _ (kilograms-within and tt) refl refl refl tt tt refl
     and good _ _ (most-transport-96-within and tt) refl refl refl tt tt refl
     and good _ _ (rest-within and tt) refl refl refl tt tt refl
     and good _ _ (segments-03-within and tt) refl refl refl tt tt refl

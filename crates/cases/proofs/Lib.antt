@@ -2,5 +2,6 @@ pub mod Cases
 pub mod Thirteen
 pub mod Readings
 pub mod Faults
+pub mod Weights
 pub mod Examples
 pub mod WriterAndPart

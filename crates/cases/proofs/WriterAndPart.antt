@@ -12,6 +12,7 @@ use Rattle.label.specs.Writing.{writeAnswer, outputAfter}
 use Rattle.label.proofs.AllDefinitions.{all-definitions}
 use Rattle.cases.proofs.Thirteen.{carton, emptyText, noTrailer}
 use Rattle.cases.proofs.Readings.{manyElements, longText}
+use Rattle.cases.proofs.Weights.{with02, with96}
 
 -- data, row numbers and an output; the answer, and the output afterwards
 pub record WriterCase : Type 0 where
@@ -42,6 +43,23 @@ manyIndicators (suc n) = 1 ∷ 6 ∷ 4 ∷ 2 ∷ manyIndicators n
 abbrev textData : Bytes
 textData = ascii "07" ++ replicate 4089 0x41
 
+-- 01 with a weight as its tenth field, by where that stands in data that has three; and the output for it
+abbrev weightData : Bytes
+weightData = ascii "01028401ZUP5LB5lb96ABC"
+
+abbrev weightRows : ℕ → ℕ → List ℕ
+weightRows start length =
+    1 ∷ 1 ∷ 0 ∷ 2 ∷ 2 ∷ 1 ∷ 2 ∷ 2 ∷ 3 ∷ 1 ∷ 0 ∷ 0 ∷ 3 ∷ 1 ∷ 4 ∷ 3 ∷ 3 ∷ 1 ∷ 7 ∷ 1 ∷ 3 ∷ 1 ∷ 7 ∷ 2 ∷ 3 ∷ 1 ∷ 9 ∷ 2
+    ∷ 3 ∷ 1 ∷ 0 ∷ 0 ∷ 3 ∷ 1 ∷ 0 ∷ 0 ∷ 3 ∷ 1 ∷ 0 ∷ 0 ∷ 3 ∷ 1 ∷ 0 ∷ 0 ∷ 3 ∷ 1 ∷ start ∷ length ∷ []
+
+abbrev weightRows96 : ℕ → ℕ → List ℕ
+weightRows96 start length =
+    1 ∷ 1 ∷ 0 ∷ 2 ∷ 2 ∷ 1 ∷ 17 ∷ 2 ∷ 3 ∷ 1 ∷ 19 ∷ 3 ∷ 3 ∷ 1 ∷ 4 ∷ 3 ∷ 3 ∷ 1 ∷ 7 ∷ 1 ∷ 3 ∷ 1 ∷ 7 ∷ 2 ∷ 3 ∷ 1 ∷ 9 ∷ 2
+    ∷ 3 ∷ 1 ∷ 0 ∷ 0 ∷ 3 ∷ 1 ∷ 0 ∷ 0 ∷ 3 ∷ 1 ∷ 0 ∷ 0 ∷ 3 ∷ 1 ∷ 0 ∷ 0 ∷ 3 ∷ 1 ∷ start ∷ length ∷ []
+
+abbrev weightRoom : Bytes
+weightRoom = replicate 32 0x2D
+
 abbrev pub writerCases : List WriterCase
 writerCases =
     record { held = cartonBytes; rows = cartonRows; output = long; answer = 0 ∷ 15 ∷ []; after = cartonBytes ++ ascii "6" }
@@ -49,6 +67,12 @@ writerCases =
     ∷ record { held = ascii "Q31P706"; rows = 1 ∷ 6 ∷ 5 ∷ 2 ∷ 3 ∷ 6 ∷ 2 ∷ 3 ∷ 3 ∷ 6 ∷ 0 ∷ 2 ∷ []; output = long; answer = 0 ∷ 15 ∷ []; after = cartonBytes ++ ascii "6" }
     -- an empty stretch at the end of the data
     ∷ record { held = ascii "07"; rows = 1 ∷ 7 ∷ 0 ∷ 2 ∷ 7 ∷ 7 ∷ 2 ∷ 0 ∷ []; output = short; answer = 0 ∷ 8 ∷ []; after = emptyText .input ++ ascii "901234" }
+    -- a weight of version 02 with its unit, and of version 96 without; 21: the other way round, and with small letters
+    ∷ record { held = weightData; rows = weightRows 11 3; output = weightRoom; answer = 0 ∷ 31 ∷ []; after = with02 "5LB" ++ ascii "-" }
+    ∷ record { held = weightData; rows = weightRows96 11 1; output = weightRoom; answer = 0 ∷ 32 ∷ []; after = with96 "5" }
+    ∷ record { held = weightData; rows = weightRows 11 1; output = weightRoom; answer = 21 ∷ []; after = weightRoom }
+    ∷ record { held = weightData; rows = weightRows96 11 3; output = weightRoom; answer = 21 ∷ []; after = weightRoom }
+    ∷ record { held = weightData; rows = weightRows 14 3; output = weightRoom; answer = 21 ∷ []; after = weightRoom }
     -- 20: no whole row; too many; a stretch past the data, an empty one too, and one whose end is past 32 bits
     ∷ record { held = cartonBytes; rows = 1 ∷ 6 ∷ 4 ∷ []; output = long; answer = 20 ∷ []; after = long }
     ∷ record { held = cartonBytes; rows = 1 ∷ 6 ∷ 14 ∷ 2 ∷ []; output = long; answer = 20 ∷ []; after = long }

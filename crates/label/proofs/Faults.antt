@@ -202,7 +202,7 @@ module _ (v : Version) where
   greatest i = limitOf (versionRow v) i .1
 
   abbrev right : ℕ → Bytes → Bool
-  right i f = getD fieldBytes i (every plain) f
+  right i f = getD (fieldBytes v) i (every plain) f
 
   -- a field as the tests of its fault have it
   abbrev faultBy : Bool → Bool → Bool → Bool → PieceFault

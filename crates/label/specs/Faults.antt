@@ -42,7 +42,7 @@ fieldFault v i f =
     cond (leftOut i f) Faultless
     (cond (ltb (length f) (limitOf (versionRow v) i .0)) (Faulty FieldTooShort)
     (cond (ltb (limitOf (versionRow v) i .1) (length f)) (Faulty FieldTooLong)
-    (cond (getD fieldBytes i (every plain) f) Faultless
+    (cond (getD (fieldBytes v) i (every plain) f) Faultless
     (Faulty BadFieldBytes))))
 
 -- 01: enough fields, and not too many

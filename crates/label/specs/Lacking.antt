@@ -21,7 +21,7 @@ use Rattle.label.specs.Written.{pieceRow, valueRow, rowed, rowedEach, in
 pub data FieldLacks (v : Version) (i : ℕ) (f : Bytes) (r : Reason) : Type 0 where
   tooShort : r ≡ FieldTooShort → length f < limitOf (versionRow v) i .0 → FieldLacks v i f r
   tooLong : r ≡ FieldTooLong → limitOf (versionRow v) i .1 < length f → FieldLacks v i f r
-  badBytes : r ≡ BadFieldBytes → longAs (limitOf (versionRow v) i) f ≡ true → getD fieldBytes i (every plain) f ≡ false → FieldLacks v i f r
+  badBytes : r ≡ BadFieldBytes → longAs (limitOf (versionRow v) i) f ≡ true → getD (fieldBytes v) i (every plain) f ≡ false → FieldLacks v i f r
 
 -- fields of a version have a fault, and some of them stand in front of it
 pub data FieldsLack (v : Version) (fs front : List Bytes) (r : Reason) : Type 0 where

@@ -28,10 +28,11 @@ l to g = record { 0 = l; 1 = g }
 unfoldable pub longAs : Limit → Bytes → Bool
 longAs l bs = leb (l .0) (length bs) && leb (length bs) (l .1)
 
--- 01, Transport fields: a row for version 02 and one for 96, a pair for each of the fields No. 1 to 15; version 96 has no field 15
+-- 01, Transport fields; No. 10 as document 02, No. 2, has it. A row for version 02 and one for 96, a pair for each of the fields No. 1 to 15; version
+-- 96 has no field 15
 abbrev pub limits : List (List Limit)
 limits =
-    (0 to 11 ∷ 3 to 3 ∷ 1 to 3 ∷ 1 to 20 ∷ 2 to 4 ∷ 1 to 10 ∷ 3 to 3 ∷ 1 to 30 ∷ 3 to 9 ∷ 1 to 10 ∷ 1 to 1 ∷ 1 to 35 ∷ 1 to 35 ∷ 2 to 2 ∷ 1 to 35 ∷ [])
+    (0 to 11 ∷ 3 to 3 ∷ 1 to 3 ∷ 1 to 20 ∷ 2 to 4 ∷ 1 to 10 ∷ 3 to 3 ∷ 1 to 30 ∷ 3 to 9 ∷ 3 to 10 ∷ 1 to 1 ∷ 1 to 35 ∷ 1 to 35 ∷ 2 to 2 ∷ 1 to 35 ∷ [])
     ∷ (3 to 11 ∷ 3 to 3 ∷ 1 to 3 ∷ 1 to 20 ∷ 2 to 4 ∷ 1 to 10 ∷ 3 to 3 ∷ 1 to 30 ∷ 3 to 9 ∷ 1 to 10 ∷ 1 to 1 ∷ 1 to 35 ∷ 1 to 35 ∷ 2 to 2 ∷ 0 to 0 ∷ [])
     ∷ []
 
