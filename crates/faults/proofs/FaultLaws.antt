@@ -61,7 +61,7 @@ field-fault-by v i f =
     greatest = limitOf (versionRow v) i .1
 
     right : Bool
-    right = getD fieldBytes i (every plain) f
+    right = getD (fieldBytes v) i (every plain) f
 
     by : (l g b out : Bool) → cond (l && g && b || out) Faultless (Faulty (cond (not l) FieldTooShort (cond (not g) FieldTooLong BadFieldBytes)))
         ≡ cond out Faultless (cond (not l) (Faulty FieldTooShort) (cond (not g) (Faulty FieldTooLong) (cond b Faultless (Faulty BadFieldBytes))))

@@ -18,7 +18,7 @@ const LIMITS: [[Limit; MOST_FIELDS_02]; 2] = [
         Limit(3, 3),
         Limit(1, 30),
         Limit(3, 9),
-        Limit(1, 10),
+        Limit(3, 10),
         Limit(1, 1),
         Limit(1, 35),
         Limit(1, 35),

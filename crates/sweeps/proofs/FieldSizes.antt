@@ -16,22 +16,24 @@ use Rattle.pieces.specs.PieceTests.{pieceTest}
 use Rattle.pieces.proofs.FieldLaws.{plain-column, no-bytes}
 use Rattle.sweeps.specs.Transport.{fitsIn, sizeFits}
 
-module _ (i : ℕ) (other : (((eqb i 8 || eqb i 10) || eqb i 1) || eqb i 6) ≡ false) (p : Bytes) (ok : every plain p ≡ true) where
-  column : getD fieldBytes i (every plain) p ≡ true
-  column = by (eqb i 8) (eqb i 10) (eqb i 1) (eqb i 6) refl refl refl refl other
+module _ (i : ℕ) (other : ((((eqb i 8 || eqb i 9) || eqb i 10) || eqb i 1) || eqb i 6) ≡ false) (p : Bytes) (ok : every plain p ≡ true) where
+  column : (v : Version) → getD (fieldBytes v) i (every plain) p ≡ true
+  column v = by (eqb i 8) (eqb i 9) (eqb i 10) (eqb i 1) (eqb i 6) refl refl refl refl refl other
     where
-      by : (s t u w : Bool) → eqb i 8 ≡ s → eqb i 10 ≡ t → eqb i 1 ≡ u → eqb i 6 ≡ w → (((s || t) || u) || w) ≡ false → getD fieldBytes i (every plain) p ≡ true
-      by true t u w h8 h10 h1 h6 is = absurd (true≢false is)
-      by false true u w h8 h10 h1 h6 is = absurd (true≢false is)
-      by false false true w h8 h10 h1 h6 is = absurd (true≢false is)
-      by false false false true h8 h10 h1 h6 is = absurd (true≢false is)
-      by false false false false h8 h10 h1 h6 is = sym (ap (λ test. test p) (plain-column i (eqb-false i 8 h8) (eqb-false i 10 h10) (λ j. h1 j || h6 j))) ∙ ok
+      by : (s t u w x : Bool) → eqb i 8 ≡ s → eqb i 9 ≡ t → eqb i 10 ≡ u → eqb i 1 ≡ w → eqb i 6 ≡ x → ((((s || t) || u) || w) || x) ≡ false → getD (fieldBytes v) i (every plain) p ≡ true
+      by true t u w x h8 h9 h10 h1 h6 is = absurd (true≢false is)
+      by false true u w x h8 h9 h10 h1 h6 is = absurd (true≢false is)
+      by false false true w x h8 h9 h10 h1 h6 is = absurd (true≢false is)
+      by false false false true x h8 h9 h10 h1 h6 is = absurd (true≢false is)
+      by false false false false true h8 h9 h10 h1 h6 is = absurd (true≢false is)
+      by false false false false false h8 h9 h10 h1 h6 is =
+          sym (ap (λ test. test p) (plain-column v i (eqb-false i 8 h8) (eqb-false i 9 h9) (eqb-false i 10 h10) (λ j. h1 j || h6 j))) ∙ ok
 
   version-sized : (v : Version) → fitsIn (versionRow v) i (length p) ≡ field v i p
   unfolding field longAs
   version-sized v =
       let long : Bool = leb (limitOf (versionRow v) i .0) (length p) && leb (length p) (limitOf (versionRow v) i .1) in
-      (λ j. sym (and-true long) j || (leb leastFields i && no-bytes p j)) ∙ ap (λ t. (long && t) || (leb leastFields i && isEmpty p)) (sym column)
+      (λ j. sym (and-true long) j || (leb leastFields i && no-bytes p j)) ∙ ap (λ t. (long && t) || (leb leastFields i && isEmpty p)) (sym (column v))
 
   pub field-sized : (k : Kind) (n : ℕ) → length p ≡ n → sizeFits k i n ≡ true → pieceTest k i p ≡ true
   field-sized Fields02 n long fits = sym (version-sized version02) ∙ ap (fitsIn 0 i) long ∙ fits

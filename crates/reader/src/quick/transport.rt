@@ -52,13 +52,13 @@ fn size_fits(k: Kind, i: usize, size: usize) -> bool
     }
 }
 
-// The end of the field with an index, or 0. Four fields have a rule for their bytes, which `pieces` knows; of the others only the length is
+// The end of the field with an index, or 0. Five fields have a rule for their bytes, which `pieces` knows; of the others only the length is
 // asked, as their bytes are plain.
 fn field_end(m: &[u8], k: Kind, i: usize, at: usize) -> usize
     requires { ⌜ Framed (now m) × (at < length (now m)) ⌝ }
     ensures { λ r. ⌜ IfAny r (PassesTo (pieceTest k i) (now (m .entry)) at r) ⌝ }
 {
-    if (i == 8) | (i == 10) | (i == 1) | (i == 6) {
+    if (i == 8) | (i == 9) | (i == 10) | (i == 1) | (i == 6) {
         return piece_end(m, k, i, at);
     }
     let end = run_end(m, Class::Plain, at);
