@@ -23,8 +23,8 @@ use Rattle.walk.specs.Cursors.{rowOf, nextCursor}
 use Rattle.leaves.proofs.Turns.{drop-past}
 use Rattle.walk.proofs.Walks.{Yields}
 use Rattle.walk.proofs.Standing.{rows-here, yields-next}
-use Rattle.writer.specs.Given.{Whole, rowFrom, alikeRow, alike}
-use Rattle.writer.proofs.GivenLaws.{rows-step, rows-past, next-whole}
+use Rattle.given.specs.Given.{Whole, rowOrNone, alikeRow, alike}
+use Rattle.given.proofs.GivenLaws.{row-there, rows-step, rows-past, next-whole}
 
 -- Items
 
@@ -167,13 +167,15 @@ module _ (m : Bytes) (all : List Row) (ns : List ℕ) where
     row-more = omega (arith, room)
 
     -- the row that the cursor stands at, and the others
-    goes-here : (alikeRow (rowOf c) (rowFrom ns i) && alike (drop (i / rowWidth + 1) all) (rowsIn (drop (i + rowWidth) ns))) ≡ alike all (rowsIn ns)
-    goes-here = sym (λ t. alike (rows-here m all c (i / rowWidth) (at .yields) row-more t) (rows-step ns i room t)) ∙ at .goes
+    goes-here : (alikeRow (rowOf c) (rowOrNone ns i) && alike (drop (i / rowWidth + 1) all) (rowsIn (drop (i + rowWidth) ns))) ≡ alike all (rowsIn ns)
+    goes-here =
+        ap (λ row. alikeRow (rowOf c) row && alike (drop (i / rowWidth + 1) all) (rowsIn (drop (i + rowWidth) ns))) (row-there ns i room)
+        ∙ sym (λ t. alike (rows-here m all c (i / rowWidth) (at .yields) row-more t) (rows-step ns i room t)) ∙ at .goes
 
-    pub compared-differs : alikeRow (rowOf c) (rowFrom ns i) ≡ false → false ≡ alike all (rowsIn ns)
+    pub compared-differs : alikeRow (rowOf c) (rowOrNone ns i) ≡ false → false ≡ alike all (rowsIn ns)
     compared-differs differs = rw differs at goes-here
 
-    pub compared-next : alikeRow (rowOf c) (rowFrom ns i) ≡ true → Compared m all ns (nextCursor m c) (i + rowWidth)
+    pub compared-next : alikeRow (rowOf c) (rowOrNone ns i) ≡ true → Compared m all ns (nextCursor m c) (i + rowWidth)
     compared-next same =
         let next : i / rowWidth + 1 ≡ (i + rowWidth) / rowWidth = omega arith in
         record {

@@ -25,9 +25,9 @@ use Rattle.label.proofs.AllDefinitions.{all-definitions}
 use Rattle.label.proofs.Promises.{accepted-is-good}
 use Rattle.label.proofs.Rendering.{rendered-good}
 use Rattle.label.proofs.Composing.{composed-good, bad-rows, rows-fit, answer-numbers, output-bytes}
-use Rattle.writer.specs.Given.{alike}
+use Rattle.given.specs.Given.{alike}
+use Rattle.given.proofs.GivenLaws.{stands-so}
 use Rattle.writer.specs.Laying.{Laying, Composes}
-use Rattle.writer.proofs.GivenLaws.{stands-so}
 use Rattle.writer.proofs.Comparing.{same-as-like, rows-like, rows-counted, not-as-many}
 
 from-nothing : composed edition2005 [] ≡ none

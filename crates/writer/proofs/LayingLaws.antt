@@ -17,9 +17,9 @@ use Rattle.label.specs.Rendered.{marksBetween, ending, renderedAfter, rendered}
 use Rattle.label.specs.Writing.{rowsIn, inside, itemIn, itemsIn}
 use Rattle.label.proofs.Tests.{both}
 use Rattle.leaves.proofs.Turns.{drop-past, take-rest}
-use Rattle.writer.specs.Given.{Whole, rowFrom}
+use Rattle.given.specs.Given.{Whole, rowFrom, rowOrNone}
+use Rattle.given.proofs.GivenLaws.{row-there, rows-step, rows-past, next-whole, stands-so}
 use Rattle.writer.specs.Laying.{Put, Laying, marksBefore, renderedFrom, Ready, Buffered}
-use Rattle.writer.proofs.GivenLaws.{rows-step, rows-past, next-whole, stands-so}
 
 -- an offset lies in a buffer or outside
 in-or-out : (P : Type 0) (a b : ℕ) → (a ≤ b → P) → (b < a → P) → P
@@ -189,13 +189,13 @@ module _ (held : Bytes) (ns : List ℕ) where
 
     -- behind the last row
     module _ (some : 0 < length ns) (past : length ns ≤ i) where
-      pub turn-last : i - rowWidth + rowWidth ≤ length ns
+      turn-last : i - rowWidth + rowWidth ≤ length ns
       turn-last = omega (arith, turn .upTo, turn .even)
 
-      pub turn-ends : (row : Row) (out′ : Bytes) (r : ℕ) → row ≡ rowFrom ns (i - rowWidth) → Put out at (ending (ruleOf edition2005 (row .format)) (row .kind)) out′ r
+      pub turn-ends : (row : Row) (out′ : Bytes) (r : ℕ) → row ≡ rowOrNone ns (i - rowWidth) → Put out at (ending (ruleOf edition2005 (row .format)) (row .kind)) out′ r
           → Laying (rendered edition2005 (itemsIn held ns)) [] r out′
       turn-ends row out′ r is put =
           let w = rendered edition2005 (itemsIn held ns) in
           let last = ending (ruleOf edition2005 (row .format)) (row .kind) in
-          let ends : renderedFrom held ns i ≡ last ++ [] = rendered-end held ns i (omega (arith, turn .upTo, turn .even)) past ∙ sym (ap (λ (row : Row). ending (ruleOf edition2005 (row .format)) (row .kind)) is) ∙ sym (append-nil last) in
+          let ends : renderedFrom held ns i ≡ last ++ [] = rendered-end held ns i (omega (arith, turn .upTo, turn .even)) past ∙ sym (ap (λ (row : Row). ending (ruleOf edition2005 (row .format)) (row .kind)) (is ∙ row-there ns (i - rowWidth) turn-last)) ∙ sym (append-nil last) in
           laying-put w last [] out out′ at r (subst (λ (left : Bytes). Laying w left at out) ends (turn .laying)) put

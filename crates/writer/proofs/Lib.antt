@@ -1,5 +1,4 @@
 pub mod MarkLaws
-pub mod GivenLaws
 pub mod LayingLaws
 pub mod Comparing
 pub mod Composed

@@ -1,10 +1,10 @@
 // Laying a message out in a buffer: bytes are put one behind the other, and an offset outside the buffer says that there was
 // no room for them.
-use crate::given::row_from;
 use crate::marks::Marks;
 use crate::marks::between;
 use crate::marks::ending_of;
 use crate::marks::heading;
+use given::row_from;
 use label::ROW;
 ghost use Prim.Native.Nat.{_≤_, _<_};
 ghost use mathlib.Core.Path.{_≡_};
@@ -14,8 +14,8 @@ ghost use Rattle.label.specs.Limits.{longest};
 ghost use Rattle.label.specs.Formats.{edition2005};
 ghost use Rattle.label.specs.Rendered.{rendered};
 ghost use Rattle.label.specs.Writing.{itemIn, itemsIn};
+ghost use Rattle.given.specs.Given.{rowFrom};
 ghost use Rattle.writer.specs.Marks.{marksOf};
-ghost use Rattle.writer.specs.Given.{rowFrom};
 ghost use Rattle.writer.specs.Laying.{RowAt, Put, Laying, marksBefore, Ready, Buffered};
 
 // Puts bytes into a buffer from an offset on, and answers the offset behind them.

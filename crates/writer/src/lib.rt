@@ -1,6 +1,5 @@
 // Writing rows: they are laid out in local memory as the one message that they can have, that message is read back and
 // compared with them, and only then is it copied into the lent output (01, Numbers for the receiving desk, paragraph Writer).
-mod given;
 mod laying;
 mod marks;
 
@@ -14,7 +13,7 @@ ghost use Rattle.label.specs.Formats.{edition2005};
 ghost use Rattle.label.specs.ReadMessage.{reading};
 ghost use Rattle.label.specs.Answer.{rowsRead};
 ghost use Rattle.label.specs.Writing.{rowsIn, itemsIn, composed, writeAnswerOf, writeAnswer, outputAfter};
-ghost use Rattle.writer.specs.Given.{Whole, alike};
+ghost use Rattle.given.specs.Given.{Whole, alike};
 ghost use Rattle.writer.specs.Laying.{Buffered, Composes};
 
 // Whether a message is read, and its rows have the kinds, formats and lengths of those given.

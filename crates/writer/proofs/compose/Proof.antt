@@ -4,7 +4,7 @@ use mathlib.Core.Bool.{true, false}
 use native.Mathlib.Omega.{arith}
 use borrow.Author.Needs.{needs}
 use lib.ListN.{length-take}
-use Rattle.writer.proofs.GivenLaws.{stands-so}
+use Rattle.given.proofs.GivenLaws.{stands-so}
 use Rattle.writer.proofs.Composed.{composed-not-long, composed-not-empty, composes-none, composes-compared}
 use Rattle.writer.proofs.compose.Statement.{statement}
 use Rattle.writer.proofs.compose.Tie as tie

@@ -12,7 +12,6 @@ use Rattle.label.specs.Writing.{rowsIn}
 use Rattle.walk.specs.declared.Cursor.{Cursor}
 use Rattle.walk.proofs.Walks.{Yields}
 use Rattle.walk.proofs.Promises.{walked}
-use Rattle.writer.proofs.GivenLaws.{next-whole}
 use Rattle.writer.proofs.Comparing.{rows-counted, not-as-many, Compared, compared-first, compared-differs, compared-next, compared-last}
 use Rattle.writer.proofs.same_rows.Statement.{statement}
 use Rattle.writer.proofs.same_rows.Tie as tie
@@ -44,9 +43,7 @@ loop-holds c =
     (sym (c .before .before .rows-of .ensures) ∙ c .before .if1 .left)
 
 like-requires : tie.Need-like-requires Inv-loop μ-loop
-like-requires c κs =
-    let at = c .before .loop in
-    next-whole (c .before .before .before .before .before .before .before .args .rows .now) (at .i) (c .before .before .before .before .before .before .before .pre) (at .inv .even) (c .loop-test .taken)
+like-requires c κs = search needs
 
 returns-2 : tie.Need-returns-2 Inv-loop μ-loop
 returns-2 c =

@@ -4,9 +4,9 @@ use mathlib.Core.Path.{subst}
 use borrow.Author.Needs.{needs}
 use lib.ListN.{length}
 use Rattle.label.specs.Bytes.{Bytes}
-use Rattle.writer.specs.Given.{asRow}
+use Rattle.given.specs.Given.{asRow}
 use Rattle.writer.specs.Laying.{Put}
-use Rattle.writer.proofs.LayingLaws.{Turn, turn-first, turn-ready, turn-next, turn-last, turn-ends}
+use Rattle.writer.proofs.LayingLaws.{Turn, turn-first, turn-ready, turn-next, turn-ends}
 use Rattle.writer.proofs.laying.lay_out.Statement.{statement}
 use Rattle.writer.proofs.laying.lay_out.Tie as tie
 
@@ -44,10 +44,7 @@ sub-row-from : tie.Need-sub-row-from Inv-loop μ-loop
 sub-row-from c = search needs
 
 row-from-requires : tie.Need-row-from-requires Inv-loop μ-loop
-row-from-requires c κs =
-    let args = c .before .before .before .before .before .args in
-    let at = c .before .loop in
-    turn-last (args .held .now) (args .rows .now) (at .out) (at .at) (at .i) (at .inv) (c .before .before .before .before .before .pre .1) (c .loop-test .left)
+row-from-requires c κs = search needs
 
 ending-of-requires : tie.Need-ending-of-requires Inv-loop μ-loop
 ending-of-requires c κs = search needs

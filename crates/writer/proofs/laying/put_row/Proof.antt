@@ -9,6 +9,7 @@ use lib.ListN.{length, take, drop}
 use Rattle.label.specs.Bytes.{Bytes}
 use Rattle.label.specs.Layout.{Row}
 use Rattle.label.specs.Writing.{inside}
+use Rattle.given.proofs.GivenLaws.{row-there}
 use Rattle.writer.specs.Marks.{marksOf}
 use Rattle.writer.specs.Laying.{Put}
 use Rattle.writer.proofs.LayingLaws.{put-both}
@@ -42,8 +43,10 @@ part-put-start c = search needs
 part-put-end : tie.Need-part-put-end
 unfolding inside
 part-put-end c =
-    let held = c .before .before .before .before .before .before .before .before .before .before .before .before .args .held .now in
-    subst (λ (row : Row). row .start + row .length ≤ length held) (sym (c .before .before .before .before .before .before .before .before .row-from .ensures)) (leb-true _ _ (c .before .before .before .before .before .before .before .before .before .before .before .before .pre .lies))
+    let args = c .before .before .before .before .before .before .before .before .before .before .before .before .args in
+    let pre = c .before .before .before .before .before .before .before .before .before .before .before .before .pre in
+    let row = c .before .before .before .before .before .before .before .before .row-from .ensures ∙ row-there (args .rows .now) (args .i) (pre .row .whole) in
+    subst (λ (row : Row). row .start + row .length ≤ length (args .held .now)) (sym row) (leb-true _ _ (pre .lies))
 
 put-requires : tie.Need-put-requires
 put-requires c κs = search needs
@@ -57,7 +60,8 @@ returns c =
     let held = args .held .now in
     let old = args .out .now in
     let given = c .before .before .before .before .before .before .before .before .before .before .before .before .row-from .result in
-    let row = c .before .before .before .before .before .before .before .before .before .before .before .before .row-from .ensures in
+    let row = c .before .before .before .before .before .before .before .before .before .before .before .before .row-from .ensures
+    ∙ row-there (args .rows .now) (args .i) (c .before .before .before .before .before .before .before .before .before .before .before .before .before .before .before .before .pre .row .whole) in
     let marks = c .before .before .before .before .before .before .before .before .marks-before in
     let one = c .before .before .before .before .before .before .before .put-marks in
     let two = c .before .before .put in

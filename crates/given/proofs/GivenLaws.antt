@@ -1,4 +1,4 @@
--- The rows that are given, from an index on: one turn of a loop over them.
+-- The rows that are given, from an index on: one turn of a loop over them, and what it says that they stand.
 use Prim.Native.Nat.{ℕ, _+_, _%_, _/_, _≤_, _<_}
 use mathlib.Core.Path.{_≡_, sym, ap, _∙_}
 use mathlib.Core.Bool.{Bool, true, false, _&&_}
@@ -11,11 +11,18 @@ use Rattle.label.specs.Bytes.{Bytes, every}
 use Rattle.label.specs.Limits.{mostRows, rowWidth}
 use Rattle.label.specs.Layout.{Row}
 use Rattle.label.specs.Writing.{rowsIn, inside, rowsStand}
-use Rattle.label.proofs.Tests.{both}
+use Rattle.label.proofs.Tests.{both, cond-yes, cond-no}
 use Rattle.leaves.proofs.Turns.{drop-step, drop-past, and-assoc, and-true}
-use Rattle.writer.specs.Given.{Whole, rowFrom}
+use Rattle.given.specs.Given.{Whole, rowFrom, noRow, rowOrNone}
 
 module _ (ns : List ℕ) (i : ℕ) where
+  -- a row's numbers all stand there, or not
+  pub row-there : i + rowWidth ≤ length ns → rowOrNone ns i ≡ rowFrom ns i
+  row-there inside = cond-yes _ _ _ (le-leb (i + rowWidth) (length ns) inside)
+
+  pub row-not-there : length ns < i + rowWidth → rowOrNone ns i ≡ noRow
+  row-not-there outside = cond-no _ _ _ (lt-leb (i + rowWidth) (length ns) outside)
+
   pub rows-step : i + rowWidth ≤ length ns → rowsIn (drop i ns) ≡ rowFrom ns i ∷ rowsIn (drop (i + rowWidth) ns)
   rows-step inside =
       let two : i + 1 + 1 ≡ i + 2 = omega arith in

@@ -1,9 +1,9 @@
 -- `rows_stand` asks in the definition's order.
 use mathlib.Core.Path.{_∙_}
 use borrow.Author.Needs.{needs}
-use Rattle.writer.proofs.GivenLaws.{not-whole, too-many, as-they-lie}
-use Rattle.writer.proofs.given.rows_stand.Statement.{statement}
-use Rattle.writer.proofs.given.rows_stand.Tie as tie
+use Rattle.given.proofs.GivenLaws.{not-whole, too-many, as-they-lie}
+use Rattle.given.proofs.rows_stand.Statement.{statement}
+use Rattle.given.proofs.rows_stand.Tie as tie
 
 returns : tie.Need-returns
 returns c =

@@ -1,4 +1,4 @@
-// The rows that are given: whether they stand, one of them, and whether a cursor's row is like one.
+// The rows that the writer is given: whether they stand, one of them, and whether a cursor's row is like one.
 use label::MOST_ROWS;
 use label::ROW;
 use walk::Cursor;
@@ -9,7 +9,7 @@ ghost use Rattle.label.specs.Bytes.{every};
 ghost use Rattle.label.specs.Limits.{rowWidth};
 ghost use Rattle.label.specs.Writing.{rowsIn, inside, rowsStand};
 ghost use Rattle.walk.specs.Cursors.{rowOf};
-ghost use Rattle.writer.specs.Given.{Whole, asRow, rowFrom, alikeRow};
+ghost use Rattle.given.specs.Given.{Whole, rowFrom, noRow, rowOrNone, asRow, alikeRow};
 
 // A row's four numbers.
 pub struct Given {
@@ -19,8 +19,8 @@ pub struct Given {
     pub length: u32,
 }
 
-// The row from an index on.
-pub(crate) fn row_from(rows: &[u32], at: usize) -> Given
+// The row whose four numbers stand from an index on.
+fn row_there(rows: &[u32], at: usize) -> Given
     requires { ⌜ at + rowWidth ≤ length (now rows) ⌝ }
     ensures { λ r. ⌜ asRow r ≡ rowFrom (now (rows .entry)) at ⌝ }
 {
@@ -32,6 +32,31 @@ pub(crate) fn row_from(rows: &[u32], at: usize) -> Given
     }
 }
 
+// Four zeros, where no row stands.
+fn no_row() -> Given
+    ensures { λ r. ⌜ asRow r ≡ noRow ⌝ }
+{
+    Given {
+        kind: 0,
+        format: 0,
+        start: 0,
+        length: 0,
+    }
+}
+
+// The row from an index on; four zeros where its numbers don't all stand there.
+pub fn row_from(rows: &[u32], at: usize) -> Given
+    ensures { λ r. ⌜ asRow r ≡ rowOrNone (now (rows .entry)) at ⌝ }
+{
+    if rows.len() < ROW {
+        return no_row();
+    }
+    if rows.len() - ROW < at {
+        return no_row();
+    }
+    row_there(rows, at)
+}
+
 // Whether every row's stretch lies in the data. Two 32-bit numbers are added as 64-bit ones, so that nothing wraps.
 fn all_inside(held: &[u8], rows: &[u32]) -> bool
     requires { ⌜ Whole (now rows) ⌝ }
@@ -41,7 +66,7 @@ fn all_inside(held: &[u8], rows: &[u32]) -> bool
     let mut ok = true;
     let mut i = 0;
     while i < rows.len() {
-        let row = row_from(rows, i);
+        let row = row_there(rows, i);
         ok = ok & ((row.start as usize) + (row.length as usize) <= long);
         i += ROW;
     }
@@ -49,7 +74,7 @@ fn all_inside(held: &[u8], rows: &[u32]) -> bool
 }
 
 // Whether the rows are whole, not too many, and their stretches in the data.
-pub(crate) fn rows_stand(held: &[u8], rows: &[u32]) -> bool
+pub fn rows_stand(held: &[u8], rows: &[u32]) -> bool
     ensures { λ r. ⌜ r ≡ rowsStand (now (held .entry)) (now (rows .entry)) ⌝ }
 {
     if rows.len() % ROW != 0 {
@@ -61,10 +86,9 @@ pub(crate) fn rows_stand(held: &[u8], rows: &[u32]) -> bool
     all_inside(held, rows)
 }
 
-// Whether the row that a cursor stands at has the kind, the format and the length of the row from an index on.
-pub(crate) fn like(c: Cursor, rows: &[u32], at: usize) -> bool
-    requires { ⌜ at + rowWidth ≤ length (now rows) ⌝ }
-    ensures { λ r. ⌜ r ≡ alikeRow (rowOf c) (rowFrom (now (rows .entry)) at) ⌝ }
+// Whether the row that a cursor stands at has the kind, the format and the length of the row from an index on, as `row_from` has it.
+pub fn like(c: Cursor, rows: &[u32], at: usize) -> bool
+    ensures { λ r. ⌜ r ≡ alikeRow (rowOf c) (rowOrNone (now (rows .entry)) at) ⌝ }
 {
     let row = row_from(rows, at);
     let stage = c.stage;

@@ -9,9 +9,9 @@ use lib.Dec.{leb}
 use Rattle.label.specs.Bytes.{every}
 use Rattle.label.specs.Limits.{rowWidth}
 use Rattle.label.specs.Writing.{rowsIn, inside}
-use Rattle.writer.proofs.GivenLaws.{next-whole, all-turn, all-end}
-use Rattle.writer.proofs.given.all_inside.Statement.{statement}
-use Rattle.writer.proofs.given.all_inside.Tie as tie
+use Rattle.given.proofs.GivenLaws.{next-whole, all-turn, all-end}
+use Rattle.given.proofs.all_inside.Statement.{statement}
+use Rattle.given.proofs.all_inside.Tie as tie
 
 abbrev Inv-loop : tie.InvT-loop
 Inv-loop held rows long ok₀ i₀ ok i = (i ≤ length rows) × (i % rowWidth ≡ 0) × ((ok && every (inside held) (rowsIn (drop i rows))) ≡ every (inside held) (rowsIn rows))
@@ -22,8 +22,8 @@ abbrev μ-loop : tie.MeasureT-loop
 loop-holds : tie.Need-loop-holds Inv-loop μ-loop
 loop-holds c = (search needs, refl, refl)
 
-row-from-requires : tie.Need-row-from-requires Inv-loop μ-loop
-row-from-requires c κs =
+row-there-requires : tie.Need-row-there-requires Inv-loop μ-loop
+row-there-requires c κs =
     let ns = c .before .before .before .before .args .rows .now in
     let at = c .before .loop in
     next-whole ns (at .i) (c .before .before .before .before .pre) (at .inv .1) (c .loop-test .taken)
@@ -50,7 +50,7 @@ loop-again c =
     let held = args .held .now in
     let ns = args .rows .now in
     let at = c .before .before .before .before .loop in
-    let row = c .before .before .row-from .ensures in
+    let row = c .before .before .row-there .ensures in
     let room = next-whole ns (at .i) (c .before .before .before .before .before .before .before .pre) (at .inv .1) (c .before .before .before .loop-test .taken) in (
       room,
       omega (arith, at .inv .1),
@@ -71,7 +71,7 @@ all-inside-spec =
     Inv-loop
     μ-loop
     loop-holds
-    row-from-requires
+    row-there-requires
     cast-ok
     cast-ok-2
     add-ok

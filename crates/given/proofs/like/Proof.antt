@@ -1,10 +1,10 @@
 -- `like` compares three numbers.
 use mathlib.Core.Bool.{_&&_}
 use lib.Dec.{eqb}
-use Rattle.writer.specs.Given.{alikeRow}
+use Rattle.given.specs.Given.{alikeRow}
 use borrow.Author.Needs.{needs}
-use Rattle.writer.proofs.given.like.Statement.{statement}
-use Rattle.writer.proofs.given.like.Tie as tie
+use Rattle.given.proofs.like.Statement.{statement}
+use Rattle.given.proofs.like.Tie as tie
 
 row-from-requires : tie.Need-row-from-requires
 row-from-requires c κs = search needs
