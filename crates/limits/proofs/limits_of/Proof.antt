@@ -1,10 +1,13 @@
--- `limits_of` is `limitOf`: within the table both look up one list, and past the last row or past a row's end the list gives 0 and 0.
-use mathlib.Core.Path.{_≡_, refl, sym, ap}
+-- `limits_of` is `limitOf`: version 02's pairs stand in the table, version 96's are worked out, and past the last row or past a row's end the list gives
+-- 0 and 0.
+use mathlib.Core.Path.{_≡_, refl, sym, ap, _∙_}
 use mathlib.Core.List.{[]}
 use Prim.Native.Nat.{ℕ, zero, suc, _≤_}
+use native.Mathlib.Omega.{arith}
 use borrow.Author.Needs.{needs}
 use lib.ListN.{getD, List·getD-eq-default}
 use Rattle.label.specs.Limits.{limits, limitOf, _to_}
+use Rattle.limits.proofs.Rows.{worked-out}
 use Rattle.limits.proofs.limits_of.Statement.{statement}
 use Rattle.limits.proofs.limits_of.Tie as tie
 
@@ -22,20 +25,25 @@ returns c = sym (no-such-version _ (c .before .args .field) (c .if1 .taken))
 returns-2 : tie.Need-returns-2
 returns-2 c = sym (no-such-field (c .before .before .args .version) _ (c .if2 .taken))
 
-mul-result : tie.Need-mul-result
-mul-result c = search needs
+mul-limit : tie.Need-mul-limit
+mul-limit c = search needs
 
-mul-result-2 : tie.Need-mul-result-2
-mul-result-2 c = search needs
-
-index-1-result : tie.Need-index-1-result
-index-1-result c = search needs
-
-index-2-result : tie.Need-index-2-result
-index-2-result c = search needs
+array-copy-out-limit : tie.Need-array-copy-out-limit
+array-copy-out-limit c = search needs
 
 returns-3 : tie.Need-returns-3
-returns-3 c = refl
+returns-3 c = ap (λ v. limitOf v (c .before .before .before .before .args .field)) (sym (c .if3 .taken))
+
+for-96-requires : tie.Need-for-96-requires
+for-96-requires c κs = search needs
+
+returns-4 : tie.Need-returns-4
+returns-4 c =
+    let field : ℕ = c .before .before .before .before .before .args .field in
+    let version-96 : 1 ≡ c .before .before .before .before .before .args .version = omega arith in
+    c .for-96 .ensures ∙ (worked-out field (search needs) ∙ ap (λ v. limitOf v field) version-96)
 
 pub limits-of-spec : {M : Type 1} → statement M
-limits-of-spec = tie.close (tie.spec returns returns-2 mul-result mul-result-2 index-1-result index-2-result returns-3)
+limits-of-spec =
+    tie.close
+    (tie.spec returns returns-2 mul-limit array-copy-out-limit returns-3 for-96-requires returns-4)
