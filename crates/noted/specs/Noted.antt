@@ -9,6 +9,10 @@ use Rattle.label.specs.declared.Stretch.{Stretch}
 use Rattle.label.specs.Limits.{rowWidth}
 use Rattle.label.specs.Answer.{accepted, refusal, roomOf, overlaid}
 
+-- how many numbers a row is in the notes
+abbrev pub noteWidth : ℕ
+noteWidth = 4
+
 -- the answer for the whole rows among the notes, given a table's room
 abbrev pub answerFrom : ℕ → List ℕ → ℕ → List ℕ
 answerFrom envelopes notes room = cond (ltb room (roomOf notes)) (refusal NoRoom 0) (accepted envelopes (roomOf notes))

@@ -1,6 +1,7 @@
-// Rows that are noted: numbers of 16 bits in the table's layout. They are handed over to a lent table, or one of them is taken for the
-// stretch that it names. What rows they are is no matter here; `reader` notes those of a message.
+// Rows that are noted, in numbers of 16 bits. They are handed over to a lent table, or one of them is taken for the stretch that it names.
+// What rows they are is no matter here; `reader` notes those of a message.
 use label::Counts;
+use label::MOST_ROWS;
 use label::ROW;
 use label::Reading;
 use label::Reason;
@@ -13,6 +14,11 @@ ghost use lib.ListN.{length, getD, take, drop};
 ghost use Rattle.label.specs.Limits.{rowWidth};
 ghost use Rattle.label.specs.Answer.{answerOf, roomOf, overlaid};
 ghost use Rattle.noted.specs.Noted.{answerFrom, tableFrom, stretchFrom};
+
+// How many numbers a row is in the notes, and the length of notes with room for the most rows.
+pub const NOTE: usize = 4;
+
+pub const NOTES: usize = NOTE * MOST_ROWS;
 
 // A noted number as one of a table.
 fn widened(x: u16) -> u32
@@ -50,7 +56,7 @@ pub fn hand_over(envelopes: usize, notes: &[u16], table: &mut [u32]) -> Reading
     ensures answer { λ r. ⌜ answerOf r ≡ answerFrom envelopes (now (notes .entry)) (roomOf (now (table .entry))) ⌝ }
     ensures rows { λ _. ⌜ now (table .exit) ≡ tableFrom (now (notes .entry)) (now (table .entry)) ⌝ }
 {
-    let rows = notes.len() / ROW;
+    let rows = notes.len() / NOTE;
     if table.len() / ROW < rows {
         return Reading::Refused(Refusal {
             reason: Reason::NoRoom,
@@ -69,7 +75,7 @@ fn offset_of(x: u16) -> usize
 }
 
 // The stretch of a row, by its number, of a message with so many rows, by the note of this row alone; the empty start where there is no such row.
-pub fn stretch_noted(row: usize, rows: usize, note: &[u16; ROW]) -> Stretch
+pub fn stretch_noted(row: usize, rows: usize, note: &[u16; NOTE]) -> Stretch
     ensures { λ r. ⌜ r ≡ stretchFrom row rows (now (note .entry)) ⌝ }
 {
     if row < rows {

@@ -14,12 +14,11 @@ use Rattle.label.specs.declared.Counts.{Counts}
 use Rattle.label.specs.declared.Reason.the-variants.{NoRoom}
 use Rattle.label.specs.declared.Stretch.{Stretch}
 use Rattle.label.specs.Bytes.{Bytes}
-use Rattle.label.specs.Limits.{rowWidth}
 use Rattle.label.specs.Formats.{edition2005}
 use Rattle.label.specs.Layout.{Row, numbers, allNumbers}
 use Rattle.label.specs.ReadMessage.{reading}
 use Rattle.label.specs.Answer.{accepted, refusal, roomOf, overlaid, rowsRead}
-use Rattle.noted.specs.Noted.{answerFrom, tableFrom, stretchFrom}
+use Rattle.noted.specs.Noted.{noteWidth, answerFrom, tableFrom, stretchFrom}
 use Rattle.noted.proofs.Copying.{four-from}
 use Rattle.walk.specs.Cursors.{rowOf}
 use Rattle.stretches.specs.Stretches.{Lies}
@@ -47,32 +46,32 @@ module _ (m : Bytes) where
   yields-after (suc i) within =
       subst (λ (n : ℕ). Yields m (cursorAfter m (suc i)) (drop n all)) (add-one i) (yields-next m all (cursorAfter m i) i (yields-after i (omega arith)) (omega arith))
 
-  pub noted-numbers : (notes : List ℕ) (rows i : ℕ) → Kept m 0 notes rows → rowWidth * i + rowWidth ≤ length notes → i < rows
-      → getD notes (rowWidth * i) 0 ∷ getD notes (rowWidth * i + 1) 0 ∷ getD notes (rowWidth * i + 2) 0 ∷ getD notes (rowWidth * i + 3) 0 ∷ [] ≡ numbers (rowOf (cursorAfter m i))
+  pub noted-numbers : (notes : List ℕ) (rows i : ℕ) → Kept m 0 notes rows → noteWidth * i + noteWidth ≤ length notes → i < rows
+      → getD notes (noteWidth * i) 0 ∷ getD notes (noteWidth * i + 1) 0 ∷ getD notes (noteWidth * i + 2) 0 ∷ getD notes (noteWidth * i + 3) 0 ∷ [] ≡ numbers (rowOf (cursorAfter m i))
   noted-numbers notes rows i kept fits less =
       let same : 0 + i ≡ i = omega arith in
-      held-numbers notes (rowWidth * i) (rowOf (cursorAfter m i)) (subst (λ (n : ℕ). Holds notes (rowWidth * i) (rowOf (cursorAfter m n))) same (kept i fits (omega arith)))
+      held-numbers notes (noteWidth * i) (rowOf (cursorAfter m i)) (subst (λ (n : ℕ). Holds notes (noteWidth * i) (rowOf (cursorAfter m n))) same (kept i fits (omega arith)))
 
   -- and so the numbers of the first rows, one behind the other
-  module _ (notes : List ℕ) (rows : ℕ) (kept : Kept m 0 notes rows) (fits : rowWidth * rows ≤ length notes) (counted : rows ≡ length all) where
+  module _ (notes : List ℕ) (rows : ℕ) (kept : Kept m 0 notes rows) (fits : noteWidth * rows ≤ length notes) (counted : rows ≡ length all) where
     one-more : (i : ℕ) → i < rows → take (i + 1) all ≡ take i all ++ (rowOf (cursorAfter m i) ∷ [])
     one-more i less = take-add i 1 all ∙ ap (λ rs. take i all ++ take 1 rs) (rows-here m all (cursorAfter m i) i (yields-after i (omega (arith, counted))) (omega (arith, counted)))
 
-    noted-up-to : (i : ℕ) → i ≤ rows → take (rowWidth * i) notes ≡ allNumbers (take i all)
+    noted-up-to : (i : ℕ) → i ≤ rows → take (noteWidth * i) notes ≡ allNumbers (take i all)
     noted-up-to zero within = refl
     noted-up-to (suc i) within =
-        let further : rowWidth * suc i ≡ rowWidth * i + rowWidth = omega arith in
+        let further : noteWidth * suc i ≡ noteWidth * i + noteWidth = omega arith in
         ap (λ n. take n notes) further
-        ∙ take-add (rowWidth * i) rowWidth notes
-        ∙ (λ j. noted-up-to i (omega arith) j ++ (four-from notes (rowWidth * i) (omega arith) ∙ noted-numbers notes rows i kept (omega arith) (omega arith)) j)
+        ∙ take-add (noteWidth * i) noteWidth notes
+        ∙ (λ j. noted-up-to i (omega arith) j ++ (four-from notes (noteWidth * i) (omega arith) ∙ noted-numbers notes rows i kept (omega arith) (omega arith)) j)
         ∙ sym (all-numbers-append (take i all) (rowOf (cursorAfter m i) ∷ []))
         ∙ ap allNumbers (sym (one-more i (omega arith)) ∙ ap (λ n. take n all) (add-one i))
 
-    pub all-noted : take (rowWidth * rows) notes ≡ allNumbers all
+    pub all-noted : take (noteWidth * rows) notes ≡ allNumbers all
     all-noted = noted-up-to rows (omega arith) ∙ ap allNumbers (take-all rows all (omega (arith, counted)))
 
   -- the only row that is noted
-  pub noted-lies : (notes : List ℕ) (rows row : ℕ) → Kept m row notes rows → rowWidth ≤ length notes → row < rows → rows ≡ length all → Lies m row (getD notes 2 0) (getD notes 3 0)
+  pub noted-lies : (notes : List ℕ) (rows row : ℕ) → Kept m row notes rows → noteWidth ≤ length notes → row < rows → rows ≡ length all → Lies m row (getD notes 2 0) (getD notes 3 0)
   noted-lies notes rows row kept fits less counted =
       let here : row + 0 ≡ row = omega arith in
       let holds : Holds notes 0 (rowOf (cursorAfter m row)) = subst (λ (n : ℕ). Holds notes 0 (rowOf (cursorAfter m n))) here (kept 0 (omega arith) (omega arith)) in
@@ -81,13 +80,13 @@ module _ (m : Bytes) where
 
 -- what becomes of the notes of a swept message is what becomes of its rows
 pub handed-so : (m : Bytes) (counts : Counts) (notes table : List ℕ) → Handed m counts notes
-    → Told m table (tableFrom (take (rowWidth * counts .rows) notes) table) (answerFrom (counts .envelopes) (take (rowWidth * counts .rows) notes) (roomOf table))
+    → Told m table (tableFrom (take (noteWidth * counts .rows) notes) table) (answerFrom (counts .envelopes) (take (noteWidth * counts .rows) notes) (roomOf table))
 handed-so m counts notes table handed =
-    let ns = take (rowWidth * counts .rows) notes in
-    let long : length ns ≡ rowWidth * counts .rows = length-take-le (rowWidth * counts .rows) notes (handed .roomy) in
+    let ns = take (noteWidth * counts .rows) notes in
+    let long : length ns ≡ noteWidth * counts .rows = length-take-le (noteWidth * counts .rows) notes (handed .roomy) in
     let rows : roomOf ns ≡ counts .rows = omega (arith, long) in
-    let all : take (rowWidth * roomOf ns) ns ≡ allNumbers (rowsRead (reading edition2005 m)) =
-    take-all (rowWidth * roomOf ns) ns (omega (arith, long, rows)) ∙ all-noted m notes (counts .rows) (handed .kept) (handed .roomy) (rows-judged m counts (handed .judged)) in
+    let all : take (noteWidth * roomOf ns) ns ≡ allNumbers (rowsRead (reading edition2005 m)) =
+    take-all (noteWidth * roomOf ns) ns (omega (arith, long, rows)) ∙ all-noted m notes (counts .rows) (handed .kept) (handed .roomy) (rows-judged m counts (handed .judged)) in
     let so = is-accepted m table counts (handed .judged) in
     record {
       answered-so = (λ j. cond (ltb (roomOf table) (rows j)) (refusal NoRoom 0) (accepted (counts .envelopes) (rows j))) ∙ so .answered-so;
@@ -103,13 +102,13 @@ lies-as-noted m row rows note kept = by (ltb row rows) refl where
   by false is = lies-nowhere m row (omega (arith, kept .counted, ltb-false row rows is))
 
 -- a swept message is handed over, if the notes have room for all rows that were asked for
-pub handed : (m : Bytes) (most : ℕ) (notes : List ℕ) (r : Swept) (counts : Counts) → r ≡ Good counts → SweptSo m (record { from = 0; most = most }) notes r → rowWidth * most ≤ length notes → Handed m counts notes
+pub handed : (m : Bytes) (most : ℕ) (notes : List ℕ) (r : Swept) (counts : Counts) → r ≡ Good counts → SweptSo m (record { from = 0; most = most }) notes r → noteWidth * most ≤ length notes → Handed m counts notes
 handed m most notes r counts is so roomy =
     let good = subst (SweptSo m (record { from = 0; most = most }) notes) is so in
     record { judged = good .judged; roomy = omega (arith, good .few); kept = good .kept }
 
 -- likewise the only row that was asked for
-pub one-kept : (m : Bytes) (row most : ℕ) (note : List ℕ) (r : Swept) (counts : Counts) → r ≡ Good counts → SweptSo m (record { from = row; most = most }) note r → rowWidth ≤ length note → OneKept m row (counts .rows) note
+pub one-kept : (m : Bytes) (row most : ℕ) (note : List ℕ) (r : Swept) (counts : Counts) → r ≡ Good counts → SweptSo m (record { from = row; most = most }) note r → noteWidth ≤ length note → OneKept m row (counts .rows) note
 one-kept m row most note r counts is so roomy =
     let good = subst (SweptSo m (record { from = row; most = most }) note) is so in
     record { counted = rows-judged m counts (good .judged); one = roomy; kept = good .kept }

@@ -1,8 +1,8 @@
 // The part of a message that a row names, handed back uncopied.
 use crate::quick::sweep;
 use label::MOST_ROWS;
-use label::ROW;
 use label::Stretch;
+use noted::NOTE;
 use sweeps::Swept;
 use sweeps::Wanted;
 ghost use Prim.Native.Nat.{_+_};
@@ -16,7 +16,7 @@ ghost use Rattle.stretches.specs.Stretches.{Lies};
 pub fn stretch_of(m: &[u8], row: usize) -> Stretch
     ensures { λ r. ⌜ Lies (now (m .entry)) row (r .start) (r .length) ⌝ }
 {
-    let mut note = [0u16; ROW];
+    let mut note = [0u16; NOTE];
     let swept = sweep(
         m,
         Wanted {

@@ -3,9 +3,9 @@
 use crate::quick::sweep;
 use label::Counts;
 use label::MOST_ROWS;
-use label::ROW;
 use label::Reading;
-use label::TABLE;
+use noted::NOTE;
+use noted::NOTES;
 use sweeps::Swept;
 use sweeps::Wanted;
 ghost use mathlib.Core.Path.{_≡_};
@@ -16,7 +16,7 @@ ghost use Rattle.sweeps.specs.Quick.{Handed};
 // Most labels have no more rows than this, and notes for the most rows take long to clear.
 const FEW_ROWS: usize = 64;
 
-const FEW_NOTES: usize = ROW * FEW_ROWS;
+const FEW_NOTES: usize = NOTE * FEW_ROWS;
 
 // The answer for a message that was swept, whose rows are noted.
 fn hand_over(message: &[u8], found: Counts, notes: &[u16], table: &mut [u32]) -> Reading
@@ -24,7 +24,7 @@ fn hand_over(message: &[u8], found: Counts, notes: &[u16], table: &mut [u32]) ->
     ensures answer { λ r. ⌜ answerOf r ≡ readAnswer edition2005 (now (message .entry)) (roomOf (now (table .entry))) ⌝ }
     ensures rows { λ _. ⌜ now (table .exit) ≡ tableAfter edition2005 (now (message .entry)) (now (table .entry)) ⌝ }
 {
-    let end = ROW * found.rows;
+    let end = NOTE * found.rows;
     noted::hand_over(found.envelopes, &notes[..end], table)
 }
 
@@ -33,7 +33,7 @@ fn read_many(message: &[u8], table: &mut [u32]) -> Reading
     ensures answer { λ r. ⌜ answerOf r ≡ readAnswer edition2005 (now (message .entry)) (roomOf (now (table .entry))) ⌝ }
     ensures rows { λ _. ⌜ now (table .exit) ≡ tableAfter edition2005 (now (message .entry)) (now (table .entry)) ⌝ }
 {
-    let mut notes = [0u16; TABLE];
+    let mut notes = [0u16; NOTES];
     let swept = sweep(
         message,
         Wanted {

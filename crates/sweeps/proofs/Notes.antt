@@ -10,8 +10,8 @@ use lib.ListN.{length, getD, set, length-set}
 use lib.Seq.{getD-set-same, getD-set-other}
 use lib.Dec.{eqb}
 use Rattle.label.specs.Bytes.{Bytes}
-use Rattle.label.specs.Limits.{rowWidth}
 use Rattle.label.specs.Layout.{Row}
+use Rattle.noted.specs.Noted.{noteWidth}
 use Rattle.walk.specs.declared.Stage.{Stage}
 use Rattle.walk.specs.declared.Stage.the-variants.{Indicator, VersionValue, ReleaseValue, TypeValue, CompressionValue, CountValue, Piece, Tag, LaterElement, FurtherSubElement, Body}
 use Rattle.walk.specs.declared.Cursor.{Cursor}
@@ -54,14 +54,14 @@ module _ (ns : List ℕ) (at : ℕ) (r : Row) where
   stored-long = length-set stored₃ (at + 3) (r .length) ∙ length-set stored₂ (at + 2) (r .start) ∙ length-set stored₁ (at + 1) (r .format) ∙ length-set ns at (r .kind)
 
   -- an index outside keeps its number
-  stored-other : (i : ℕ) → (at ≤ i → i < at + rowWidth → ⊥) → getD stored i 0 ≡ getD ns i 0
+  stored-other : (i : ℕ) → (at ≤ i → i < at + noteWidth → ⊥) → getD stored i 0 ≡ getD ns i 0
   stored-other i outside =
       getD-set-other stored₃ (at + 3) i (r .length) 0 (λ is. outside (omega arith) (omega arith))
       ∙ getD-set-other stored₂ (at + 2) i (r .start) 0 (λ is. outside (omega arith) (omega arith))
       ∙ getD-set-other stored₁ (at + 1) i (r .format) 0 (λ is. outside (omega arith) (omega arith))
       ∙ getD-set-other ns at i (r .kind) 0 (λ is. outside (omega arith) (omega arith))
 
-  stored-here : at + rowWidth ≤ length ns → Holds stored at r
+  stored-here : at + noteWidth ≤ length ns → Holds stored at r
   stored-here fits =
       let l₁ = length-set ns at (r .kind) in
       let l₂ = length-set stored₁ (at + 1) (r .format) in
@@ -81,7 +81,7 @@ module _ (ns : List ℕ) (at : ℕ) (r : Row) where
       }
 
 -- a row that lies elsewhere stays
-stored-elsewhere : (ns : List ℕ) (at other : ℕ) (r r′ : Row) → ((i : ℕ) → other ≤ i → i < other + rowWidth → at ≤ i → i < at + rowWidth → ⊥) → Holds ns other r′ → Holds (stored ns at r) other r′
+stored-elsewhere : (ns : List ℕ) (at other : ℕ) (r r′ : Row) → ((i : ℕ) → other ≤ i → i < other + noteWidth → at ≤ i → i < at + noteWidth → ⊥) → Holds ns other r′ → Holds (stored ns at r) other r′
 stored-elsewhere ns at other r r′ apart holds = record {
   kind = stored-other ns at r other (apart other (omega arith) (omega arith)) ∙ holds .kind;
   format = stored-other ns at r (other + 1) (apart (other + 1) (omega arith) (omega arith)) ∙ holds .format;
@@ -95,31 +95,31 @@ module _ (from : ℕ) (old : List ℕ) (row : ℕ) (c : Cursor) where
   noted-before early m noted = record { stands = cursor-next m row c (noted .stands); kept = λ k fits less. absurd (omega arith) }
 
   -- a row for which there is no room
-  pub noted-behind : from ≤ row → length old < rowWidth * (row - from) + rowWidth → NotedOne from old old row c
+  pub noted-behind : from ≤ row → length old < noteWidth * (row - from) + noteWidth → NotedOne from old old row c
   noted-behind late full m noted = record {
     stands = cursor-next m row c (noted .stands);
     kept = λ k fits less. noted .kept k fits (omega arith);
   }
 
   -- a row that is put
-  pub noted-put : (new : List ℕ) → from ≤ row → rowWidth * (row - from) + rowWidth ≤ length old → new ≡ stored old (rowWidth * (row - from)) (rowOf c) → NotedOne from old new row c
-  noted-put new late roomy is m noted = record { stands = cursor-next m row c (noted .stands); kept = λ k fits less. by k (eqb k (row - from)) refl (subst (λ (ns : List ℕ). rowWidth * k + rowWidth ≤ length ns) is fits) less }
+  pub noted-put : (new : List ℕ) → from ≤ row → noteWidth * (row - from) + noteWidth ≤ length old → new ≡ stored old (noteWidth * (row - from)) (rowOf c) → NotedOne from old new row c
+  noted-put new late roomy is m noted = record { stands = cursor-next m row c (noted .stands); kept = λ k fits less. by k (eqb k (row - from)) refl (subst (λ (ns : List ℕ). noteWidth * k + noteWidth ≤ length ns) is fits) less }
     where
       at : ℕ
-      at = rowWidth * (row - from)
+      at = noteWidth * (row - from)
 
       long : length (stored old at (rowOf c)) ≡ length old
       long = stored-long old at (rowOf c)
 
-      by : (k : ℕ) (t : Bool) → eqb k (row - from) ≡ t → rowWidth * k + rowWidth ≤ length (stored old at (rowOf c)) → from + k < row + 1 → Holds new (rowWidth * k) (rowOf (cursorAfter m (from + k)))
+      by : (k : ℕ) (t : Bool) → eqb k (row - from) ≡ t → noteWidth * k + noteWidth ≤ length (stored old at (rowOf c)) → from + k < row + 1 → Holds new (noteWidth * k) (rowOf (cursorAfter m (from + k)))
       by k true here fits less =
           let same = eqb-true k (row - from) here in
           let there : row ≡ from + k = omega arith in
-          subst (λ (ns : List ℕ). Holds ns (rowWidth * k) (rowOf (cursorAfter m (from + k)))) (sym is)
-          (subst (λ (n : ℕ). Holds (stored old at (rowOf c)) (rowWidth * n) (rowOf (cursorAfter m (from + k)))) (sym same)
+          subst (λ (ns : List ℕ). Holds ns (noteWidth * k) (rowOf (cursorAfter m (from + k)))) (sym is)
+          (subst (λ (n : ℕ). Holds (stored old at (rowOf c)) (noteWidth * n) (rowOf (cursorAfter m (from + k)))) (sym same)
           (subst (λ (r : Row). Holds (stored old at (rowOf c)) at r) (ap rowOf (sym (noted .stands)) ∙ ap (λ n. rowOf (cursorAfter m n)) there) (stored-here old at (rowOf c) roomy)))
       by k false other fits less =
           let differs = eqb-false k (row - from) other in
           let below : k < row - from = omega (arith, differs) in
-          subst (λ (ns : List ℕ). Holds ns (rowWidth * k) (rowOf (cursorAfter m (from + k)))) (sym is)
-          (stored-elsewhere old at (rowWidth * k) (rowOf c) (rowOf (cursorAfter m (from + k))) (λ i a b e f. omega arith) (noted .kept k (omega (arith, long)) (omega arith)))
+          subst (λ (ns : List ℕ). Holds ns (noteWidth * k) (rowOf (cursorAfter m (from + k)))) (sym is)
+          (stored-elsewhere old at (noteWidth * k) (rowOf c) (rowOf (cursorAfter m (from + k))) (λ i a b e f. omega arith) (noted .kept k (omega (arith, long)) (omega arith)))

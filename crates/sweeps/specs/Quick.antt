@@ -8,13 +8,14 @@ use lib.ListN.{length, getD, take, drop}
 use Rattle.label.specs.declared.Counts.{Counts}
 use Rattle.label.specs.declared.Reading.the-variants.{Accepted}
 use Rattle.label.specs.Bytes.{Bytes, EOT, plain, digit}
-use Rattle.label.specs.Limits.{longest, mostRows, rowWidth}
+use Rattle.label.specs.Limits.{longest, mostRows}
 use Rattle.label.specs.Formats.{edition2005, ruleOf}
 use Rattle.label.specs.Layout.{Row}
 use Rattle.label.specs.ReadEnvelope.{readBy, readEnvelope}
 use Rattle.label.specs.Message.{header}
 use Rattle.label.specs.ReadMessage.{agreement, reading}
 use Rattle.label.specs.Answer.{rowsRead}
+use Rattle.noted.specs.Noted.{noteWidth}
 use Rattle.pieces.specs.declared.Kind.{Kind}
 use Rattle.pieces.specs.declared.Kind.the-variants.{Fields02, Fields96, Segments03, Segments04, Elements05, Elements06, Text}
 use Rattle.envelope.specs.declared.Found.the-variants.{Closed}
@@ -79,7 +80,7 @@ pub record Holds (ns : List ℕ) (at : ℕ) (r : Row) : Type 0 where
 
 -- of the first rows those from a number on stand in the notes, as far as these reach
 abbrev pub Kept : Bytes → ℕ → List ℕ → ℕ → Type 0
-Kept m from notes rows = (k : ℕ) → rowWidth * k + rowWidth ≤ length notes → from + k < rows → Holds notes (rowWidth * k) (rowOf (cursorAfter m (from + k)))
+Kept m from notes rows = (k : ℕ) → noteWidth * k + noteWidth ≤ length notes → from + k < rows → Holds notes (noteWidth * k) (rowOf (cursorAfter m (from + k)))
 
 -- so many rows are noted, and the walk stands at a cursor
 pub record Noted (m : Bytes) (from : ℕ) (notes : List ℕ) (rows : ℕ) (c : Cursor) : Type 0 where
@@ -168,11 +169,11 @@ EndsSo m at envelopes rows most Left = Unit {0}
 -- a message that was swept, with all its rows in the notes
 pub record Handed (m : Bytes) (counts : Counts) (notes : List ℕ) : Type 0 where
   pub judged : judgedAs (reading edition2005 m) ≡ Accepted counts
-  pub roomy : rowWidth * counts .rows ≤ length notes
+  pub roomy : noteWidth * counts .rows ≤ length notes
   pub kept : Kept m 0 notes (counts .rows)
 
 -- a message that was swept, with its row of a number in the note, if it has one
 pub record OneKept (m : Bytes) (row rows : ℕ) (note : List ℕ) : Type 0 where
   pub counted : rows ≡ length (rowsRead (reading edition2005 m))
-  pub one : rowWidth ≤ length note
+  pub one : noteWidth ≤ length note
   pub kept : Kept m row note rows

@@ -1,13 +1,14 @@
-// Notes: the rows that the sweep has gone over, in memory of its own, as four numbers each in the table's layout. And the answer that gives the
+// Notes: the rows that the sweep has gone over, in memory of its own, as four numbers each: kind, format, start and length. And the answer that gives the
 // message up.
-use label::ROW;
+use noted::NOTE;
 use sweeps::Passed;
 use walk::Cursor;
 use walk::kind_of;
 ghost use mathlib.Core.Path.{_≡_};
 ghost use Prim.Native.Nat.{_+_, _≤_};
 ghost use lib.ListN.{length, set};
-ghost use Rattle.label.specs.Limits.{longest, rowWidth};
+ghost use Rattle.label.specs.Limits.{longest};
+ghost use Rattle.noted.specs.Noted.{noteWidth};
 ghost use Rattle.walk.specs.Cursors.{kindOf};
 ghost use Rattle.sweeps.specs.Quick.{Notable, NotedOne};
 
@@ -20,7 +21,7 @@ pub(crate) fn given_up(rows: usize) -> Passed
 
 // Puts a row's numbers into the notes, from an index on.
 fn put_note(notes: &mut [u16], at: usize, c: Cursor)
-    requires { ⌜ (at + rowWidth ≤ length (now notes)) × ((c .start + c .length ≤ longest) × (c .format ≤ 99)) ⌝ }
+    requires { ⌜ (at + noteWidth ≤ length (now notes)) × ((c .start + c .length ≤ longest) × (c .format ≤ 99)) ⌝ }
     ensures { λ r. ⌜ now (notes .exit) ≡ set (set (set (set (now (notes .entry)) at (kindOf (c .stage))) (at + 1) (c .format)) (at + 2) (c .start)) (at + 3) (c .length) ⌝ }
 {
     let stage = c.stage;
@@ -36,8 +37,8 @@ pub(crate) fn note(notes: &mut [u16], from: usize, row: usize, c: Cursor)
     ensures { λ r. ⌜ NotedOne from (now (notes .entry)) (now (notes .exit)) row c ⌝ }
 {
     if from <= row {
-        let at = ROW * (row - from);
-        if at + ROW <= notes.len() {
+        let at = NOTE * (row - from);
+        if at + NOTE <= notes.len() {
             put_note(notes, at, c);
         }
     }

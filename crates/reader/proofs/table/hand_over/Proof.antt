@@ -2,7 +2,7 @@
 use Prim.Native.Nat.{_*_}
 use mathlib.Core.Path.{sym, _∙_}
 use lib.Seq.{length-take-le}
-use Rattle.label.specs.Limits.{rowWidth}
+use Rattle.noted.specs.Noted.{noteWidth}
 use Rattle.reader.proofs.NotedRows.{handed-so}
 use borrow.Author.Needs.{needs}
 use Rattle.reader.proofs.table.hand_over.Statement.{statement}
@@ -14,7 +14,7 @@ mul-end c = search needs
 slice-aggregate-hand-over : tie.Need-slice-aggregate-hand-over
 slice-aggregate-hand-over c =
     let args = c .before .before .before .before .before .args in
-    sym (length-take-le (rowWidth * args .found .rows) (args .notes .now) (c .before .before .before .before .before .pre .roomy))
+    sym (length-take-le (noteWidth * args .found .rows) (args .notes .now) (c .before .before .before .before .before .pre .roomy))
 
 hand-over-requires : tie.Need-hand-over-requires
 hand-over-requires c κs = search needs
