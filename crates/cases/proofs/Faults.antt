@@ -105,7 +105,7 @@ emptyFifth96 = record { input = ascii "[)>\u{1e}01\u{1d}96ABC\u{1d}840\u{1d}1\u{
 
 -- B.2 as its note asks, the shipment ID left out
 abbrev leftOutShipment : Case
-leftOutShipment = record { input = ascii "[)>\u{1e}01\u{1d}0291521\u{1d}840\u{1d}021\u{1d}394594459756\u{1d}FDEG\u{1d}9779976\u{1d}189\u{1d}\u{1d}1/1\u{1d}0.06LB\u{1d}N\u{1d}500 South Buena Vista Street\u{1d}Burbank\u{1d}CA\u{1d}Jennifer Stewart\u{1e}\u{4}"; lines = (0 ∷ 1 ∷ 17 ∷ []) ∷ (1 ∷ 1 ∷ 4 ∷ 2 ∷ []) ∷ (2 ∷ 1 ∷ 7 ∷ 2 ∷ []) ∷ (3 ∷ 1 ∷ 9 ∷ 5 ∷ []) ∷ (3 ∷ 1 ∷ 15 ∷ 3 ∷ []) ∷ (3 ∷ 1 ∷ 19 ∷ 3 ∷ []) ∷ (3 ∷ 1 ∷ 23 ∷ 12 ∷ []) ∷ (3 ∷ 1 ∷ 36 ∷ 4 ∷ []) ∷ (3 ∷ 1 ∷ 41 ∷ 7 ∷ []) ∷ (3 ∷ 1 ∷ 49 ∷ 3 ∷ []) ∷ (3 ∷ 1 ∷ 53 ∷ 0 ∷ []) ∷ (3 ∷ 1 ∷ 54 ∷ 3 ∷ []) ∷ (3 ∷ 1 ∷ 58 ∷ 6 ∷ []) ∷ (3 ∷ 1 ∷ 65 ∷ 1 ∷ []) ∷ (3 ∷ 1 ∷ 67 ∷ 28 ∷ []) ∷ (3 ∷ 1 ∷ 96 ∷ 7 ∷ []) ∷ (3 ∷ 1 ∷ 104 ∷ 2 ∷ []) ∷ (3 ∷ 1 ∷ 107 ∷ 16 ∷ []) ∷ [] }
+leftOutShipment = record { input = ascii "[)>\u{1e}01\u{1d}0291521\u{1d}840\u{1d}021\u{1d}394594459756\u{1d}FDEG\u{1d}9779976\u{1d}189\u{1d}\u{1d}1/1\u{1d}0.06LB\u{1d}N\u{1d}500 South Buena Vista Street\u{1d}Burbank\u{1d}CA\u{1d}Jennifer Stewart\u{1e}\u{4}"; lines = (0 ∷ 1 ∷ 17 ∷ []) ∷ (1 ∷ 1 ∷ 4 ∷ 2 ∷ 0 ∷ []) ∷ (2 ∷ 1 ∷ 7 ∷ 2 ∷ 0 ∷ []) ∷ (3 ∷ 1 ∷ 9 ∷ 5 ∷ 0 ∷ []) ∷ (3 ∷ 1 ∷ 15 ∷ 3 ∷ 0 ∷ []) ∷ (3 ∷ 1 ∷ 19 ∷ 3 ∷ 0 ∷ []) ∷ (3 ∷ 1 ∷ 23 ∷ 12 ∷ 0 ∷ []) ∷ (3 ∷ 1 ∷ 36 ∷ 4 ∷ 0 ∷ []) ∷ (3 ∷ 1 ∷ 41 ∷ 7 ∷ 0 ∷ []) ∷ (3 ∷ 1 ∷ 49 ∷ 3 ∷ 0 ∷ []) ∷ (3 ∷ 1 ∷ 53 ∷ 0 ∷ 0 ∷ []) ∷ (3 ∷ 1 ∷ 54 ∷ 3 ∷ 0 ∷ []) ∷ (3 ∷ 1 ∷ 58 ∷ 6 ∷ 0 ∷ []) ∷ (3 ∷ 1 ∷ 65 ∷ 1 ∷ 0 ∷ []) ∷ (3 ∷ 1 ∷ 67 ∷ 28 ∷ 0 ∷ []) ∷ (3 ∷ 1 ∷ 96 ∷ 7 ∷ 0 ∷ []) ∷ (3 ∷ 1 ∷ 104 ∷ 2 ∷ 0 ∷ []) ∷ (3 ∷ 1 ∷ 107 ∷ 16 ∷ 0 ∷ []) ∷ [] }
 
 -- no shipper ID, and a day that is too short
 abbrev shortBehindEmpty : Case

@@ -5,3 +5,4 @@ pub mod Faults
 pub mod Weights
 pub mod Examples
 pub mod WriterAndPart
+pub mod Ordinals

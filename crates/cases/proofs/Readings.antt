@@ -103,7 +103,7 @@ restWithEOT = record { input = ascii "[)>\u{1e}02X\u{4}"; lines = (10 ∷ 4 ∷ 
 
 -- H `02` GS
 abbrev restWithGS : Case
-restWithGS = record { input = ascii "[)>\u{1e}02\u{1d}"; lines = (0 ∷ 1 ∷ 2 ∷ []) ∷ (1 ∷ 2 ∷ 4 ∷ 2 ∷ []) ∷ (7 ∷ 2 ∷ 6 ∷ 1 ∷ []) ∷ [] }
+restWithGS = record { input = ascii "[)>\u{1e}02\u{1d}"; lines = (0 ∷ 1 ∷ 2 ∷ []) ∷ (1 ∷ 2 ∷ 4 ∷ 2 ∷ 0 ∷ []) ∷ (7 ∷ 2 ∷ 6 ∷ 1 ∷ 0 ∷ []) ∷ [] }
 
 -- Reading 8 and 9: versions, and what must be there
 
@@ -117,7 +117,7 @@ version56 = record { input = ascii "[)>\u{1e}01\u{1d}5652001\u{1d}840\u{1d}001\u
 
 -- version 02 with an empty postal code
 abbrev noPostalCode02 : Case
-noPostalCode02 = record { input = ascii "[)>\u{1e}01\u{1d}02\u{1d}840\u{1d}001\u{1d}1Z\u{1d}UP\u{1e}\u{4}"; lines = (0 ∷ 1 ∷ 7 ∷ []) ∷ (1 ∷ 1 ∷ 4 ∷ 2 ∷ []) ∷ (2 ∷ 1 ∷ 7 ∷ 2 ∷ []) ∷ (3 ∷ 1 ∷ 9 ∷ 0 ∷ []) ∷ (3 ∷ 1 ∷ 10 ∷ 3 ∷ []) ∷ (3 ∷ 1 ∷ 14 ∷ 3 ∷ []) ∷ (3 ∷ 1 ∷ 18 ∷ 2 ∷ []) ∷ (3 ∷ 1 ∷ 21 ∷ 2 ∷ []) ∷ [] }
+noPostalCode02 = record { input = ascii "[)>\u{1e}01\u{1d}02\u{1d}840\u{1d}001\u{1d}1Z\u{1d}UP\u{1e}\u{4}"; lines = (0 ∷ 1 ∷ 7 ∷ []) ∷ (1 ∷ 1 ∷ 4 ∷ 2 ∷ 0 ∷ []) ∷ (2 ∷ 1 ∷ 7 ∷ 2 ∷ 0 ∷ []) ∷ (3 ∷ 1 ∷ 9 ∷ 0 ∷ 0 ∷ []) ∷ (3 ∷ 1 ∷ 10 ∷ 3 ∷ 0 ∷ []) ∷ (3 ∷ 1 ∷ 14 ∷ 3 ∷ 0 ∷ []) ∷ (3 ∷ 1 ∷ 18 ∷ 2 ∷ 0 ∷ []) ∷ (3 ∷ 1 ∷ 21 ∷ 2 ∷ 0 ∷ []) ∷ [] }
 
 -- version 96 with an empty postal code: 31 at it
 abbrev noPostalCode96 : Case
@@ -133,11 +133,11 @@ emptyLastField = record { input = ascii "[)>\u{1e}01\u{1d}02\u{1d}840\u{1d}001\u
 
 -- fields 6 to 8 empty, field 9 `1/1`
 abbrev emptyLaterFields : Case
-emptyLaterFields = record { input = ascii "[)>\u{1e}01\u{1d}02\u{1d}840\u{1d}001\u{1d}1Z\u{1d}UP\u{1d}\u{1d}\u{1d}\u{1d}1/1\u{1e}\u{4}"; lines = (0 ∷ 1 ∷ 11 ∷ []) ∷ (1 ∷ 1 ∷ 4 ∷ 2 ∷ []) ∷ (2 ∷ 1 ∷ 7 ∷ 2 ∷ []) ∷ (3 ∷ 1 ∷ 9 ∷ 0 ∷ []) ∷ (3 ∷ 1 ∷ 10 ∷ 3 ∷ []) ∷ (3 ∷ 1 ∷ 14 ∷ 3 ∷ []) ∷ (3 ∷ 1 ∷ 18 ∷ 2 ∷ []) ∷ (3 ∷ 1 ∷ 21 ∷ 2 ∷ []) ∷ (3 ∷ 1 ∷ 24 ∷ 0 ∷ []) ∷ (3 ∷ 1 ∷ 25 ∷ 0 ∷ []) ∷ (3 ∷ 1 ∷ 26 ∷ 0 ∷ []) ∷ (3 ∷ 1 ∷ 27 ∷ 3 ∷ []) ∷ [] }
+emptyLaterFields = record { input = ascii "[)>\u{1e}01\u{1d}02\u{1d}840\u{1d}001\u{1d}1Z\u{1d}UP\u{1d}\u{1d}\u{1d}\u{1d}1/1\u{1e}\u{4}"; lines = (0 ∷ 1 ∷ 11 ∷ []) ∷ (1 ∷ 1 ∷ 4 ∷ 2 ∷ 0 ∷ []) ∷ (2 ∷ 1 ∷ 7 ∷ 2 ∷ 0 ∷ []) ∷ (3 ∷ 1 ∷ 9 ∷ 0 ∷ 0 ∷ []) ∷ (3 ∷ 1 ∷ 10 ∷ 3 ∷ 0 ∷ []) ∷ (3 ∷ 1 ∷ 14 ∷ 3 ∷ 0 ∷ []) ∷ (3 ∷ 1 ∷ 18 ∷ 2 ∷ 0 ∷ []) ∷ (3 ∷ 1 ∷ 21 ∷ 2 ∷ 0 ∷ []) ∷ (3 ∷ 1 ∷ 24 ∷ 0 ∷ 0 ∷ []) ∷ (3 ∷ 1 ∷ 25 ∷ 0 ∷ 0 ∷ []) ∷ (3 ∷ 1 ∷ 26 ∷ 0 ∷ 0 ∷ []) ∷ (3 ∷ 1 ∷ 27 ∷ 3 ∷ 0 ∷ []) ∷ [] }
 
 -- version 02 with fifteen fields
 abbrev name02 : Case
-name02 = record { input = ascii "[)>\u{1e}01\u{1d}02\u{1d}840\u{1d}1\u{1d}1\u{1d}UP\u{1d}\u{1d}\u{1d}\u{1d}\u{1d}\u{1d}\u{1d}\u{1d}\u{1d}\u{1d}A\u{1e}\u{4}"; lines = (0 ∷ 1 ∷ 17 ∷ []) ∷ (1 ∷ 1 ∷ 4 ∷ 2 ∷ []) ∷ (2 ∷ 1 ∷ 7 ∷ 2 ∷ []) ∷ (3 ∷ 1 ∷ 9 ∷ 0 ∷ []) ∷ (3 ∷ 1 ∷ 10 ∷ 3 ∷ []) ∷ (3 ∷ 1 ∷ 14 ∷ 1 ∷ []) ∷ (3 ∷ 1 ∷ 16 ∷ 1 ∷ []) ∷ (3 ∷ 1 ∷ 18 ∷ 2 ∷ []) ∷ (3 ∷ 1 ∷ 21 ∷ 0 ∷ []) ∷ (3 ∷ 1 ∷ 22 ∷ 0 ∷ []) ∷ (3 ∷ 1 ∷ 23 ∷ 0 ∷ []) ∷ (3 ∷ 1 ∷ 24 ∷ 0 ∷ []) ∷ (3 ∷ 1 ∷ 25 ∷ 0 ∷ []) ∷ (3 ∷ 1 ∷ 26 ∷ 0 ∷ []) ∷ (3 ∷ 1 ∷ 27 ∷ 0 ∷ []) ∷ (3 ∷ 1 ∷ 28 ∷ 0 ∷ []) ∷ (3 ∷ 1 ∷ 29 ∷ 0 ∷ []) ∷ (3 ∷ 1 ∷ 30 ∷ 1 ∷ []) ∷ [] }
+name02 = record { input = ascii "[)>\u{1e}01\u{1d}02\u{1d}840\u{1d}1\u{1d}1\u{1d}UP\u{1d}\u{1d}\u{1d}\u{1d}\u{1d}\u{1d}\u{1d}\u{1d}\u{1d}\u{1d}A\u{1e}\u{4}"; lines = (0 ∷ 1 ∷ 17 ∷ []) ∷ (1 ∷ 1 ∷ 4 ∷ 2 ∷ 0 ∷ []) ∷ (2 ∷ 1 ∷ 7 ∷ 2 ∷ 0 ∷ []) ∷ (3 ∷ 1 ∷ 9 ∷ 0 ∷ 0 ∷ []) ∷ (3 ∷ 1 ∷ 10 ∷ 3 ∷ 0 ∷ []) ∷ (3 ∷ 1 ∷ 14 ∷ 1 ∷ 0 ∷ []) ∷ (3 ∷ 1 ∷ 16 ∷ 1 ∷ 0 ∷ []) ∷ (3 ∷ 1 ∷ 18 ∷ 2 ∷ 0 ∷ []) ∷ (3 ∷ 1 ∷ 21 ∷ 0 ∷ 0 ∷ []) ∷ (3 ∷ 1 ∷ 22 ∷ 0 ∷ 0 ∷ []) ∷ (3 ∷ 1 ∷ 23 ∷ 0 ∷ 0 ∷ []) ∷ (3 ∷ 1 ∷ 24 ∷ 0 ∷ 0 ∷ []) ∷ (3 ∷ 1 ∷ 25 ∷ 0 ∷ 0 ∷ []) ∷ (3 ∷ 1 ∷ 26 ∷ 0 ∷ 0 ∷ []) ∷ (3 ∷ 1 ∷ 27 ∷ 0 ∷ 0 ∷ []) ∷ (3 ∷ 1 ∷ 28 ∷ 0 ∷ 0 ∷ []) ∷ (3 ∷ 1 ∷ 29 ∷ 0 ∷ 0 ∷ []) ∷ (3 ∷ 1 ∷ 30 ∷ 1 ∷ 0 ∷ []) ∷ [] }
 
 -- version 96 with fifteen fields: 30 at the first
 abbrev name96 : Case
@@ -167,7 +167,7 @@ emptyElements = record { input = ascii "[)>\u{1e}06\u{1d}\u{1e}\u{4}"; lines = (
 
 -- format 09 with count zero
 abbrev emptyPayload : Case
-emptyPayload = record { input = ascii "[)>\u{1e}09\u{1d}A\u{1d}\u{1d}0\u{1d}\u{1e}\u{4}"; lines = (0 ∷ 1 ∷ 5 ∷ []) ∷ (1 ∷ 9 ∷ 4 ∷ 2 ∷ []) ∷ (2 ∷ 9 ∷ 7 ∷ 1 ∷ []) ∷ (2 ∷ 9 ∷ 9 ∷ 0 ∷ []) ∷ (2 ∷ 9 ∷ 10 ∷ 1 ∷ []) ∷ (7 ∷ 9 ∷ 12 ∷ 0 ∷ []) ∷ [] }
+emptyPayload = record { input = ascii "[)>\u{1e}09\u{1d}A\u{1d}\u{1d}0\u{1d}\u{1e}\u{4}"; lines = (0 ∷ 1 ∷ 5 ∷ []) ∷ (1 ∷ 9 ∷ 4 ∷ 2 ∷ 0 ∷ []) ∷ (2 ∷ 9 ∷ 7 ∷ 1 ∷ 0 ∷ []) ∷ (2 ∷ 9 ∷ 9 ∷ 0 ∷ 0 ∷ []) ∷ (2 ∷ 9 ∷ 10 ∷ 1 ∷ 0 ∷ []) ∷ (7 ∷ 9 ∷ 12 ∷ 0 ∷ 0 ∷ []) ∷ [] }
 
 -- Reading 11: FS ends a segment; `BIN`
 
@@ -185,19 +185,19 @@ binary03 = record { input = ascii "[)>\u{1e}03004010\u{1c}\u{1d}\u{1f}BIN\u{1c}\
 
 -- `BIN` in 04
 abbrev binary04 : Case
-binary04 = record { input = ascii "[)>\u{1e}04004010\u{1c}\u{1d}\u{1f}BIN\u{1c}\u{1e}\u{4}"; lines = (0 ∷ 1 ∷ 3 ∷ []) ∷ (1 ∷ 4 ∷ 4 ∷ 2 ∷ []) ∷ (2 ∷ 4 ∷ 6 ∷ 6 ∷ []) ∷ (4 ∷ 4 ∷ 15 ∷ 3 ∷ []) ∷ [] }
+binary04 = record { input = ascii "[)>\u{1e}04004010\u{1c}\u{1d}\u{1f}BIN\u{1c}\u{1e}\u{4}"; lines = (0 ∷ 1 ∷ 3 ∷ []) ∷ (1 ∷ 4 ∷ 4 ∷ 2 ∷ 0 ∷ []) ∷ (2 ∷ 4 ∷ 6 ∷ 6 ∷ 0 ∷ []) ∷ (4 ∷ 4 ∷ 15 ∷ 3 ∷ 0 ∷ []) ∷ [] }
 
 -- `BIN` in 03, but not as a tag
 abbrev binaryElement : Case
-binaryElement = record { input = ascii "[)>\u{1e}03004010\u{1c}\u{1d}\u{1f}N1\u{1d}BIN\u{1c}\u{1e}\u{4}"; lines = (0 ∷ 1 ∷ 4 ∷ []) ∷ (1 ∷ 3 ∷ 4 ∷ 2 ∷ []) ∷ (2 ∷ 3 ∷ 6 ∷ 6 ∷ []) ∷ (4 ∷ 3 ∷ 15 ∷ 2 ∷ []) ∷ (5 ∷ 3 ∷ 18 ∷ 3 ∷ []) ∷ [] }
+binaryElement = record { input = ascii "[)>\u{1e}03004010\u{1c}\u{1d}\u{1f}N1\u{1d}BIN\u{1c}\u{1e}\u{4}"; lines = (0 ∷ 1 ∷ 4 ∷ []) ∷ (1 ∷ 3 ∷ 4 ∷ 2 ∷ 0 ∷ []) ∷ (2 ∷ 3 ∷ 6 ∷ 6 ∷ 0 ∷ []) ∷ (4 ∷ 3 ∷ 15 ∷ 2 ∷ 0 ∷ []) ∷ (5 ∷ 3 ∷ 18 ∷ 3 ∷ 0 ∷ []) ∷ [] }
 
 -- `BIM` in 03
 abbrev nearlyBinary : Case
-nearlyBinary = record { input = ascii "[)>\u{1e}03004010\u{1c}\u{1d}\u{1f}BIM\u{1c}\u{1e}\u{4}"; lines = (0 ∷ 1 ∷ 3 ∷ []) ∷ (1 ∷ 3 ∷ 4 ∷ 2 ∷ []) ∷ (2 ∷ 3 ∷ 6 ∷ 6 ∷ []) ∷ (4 ∷ 3 ∷ 15 ∷ 3 ∷ []) ∷ [] }
+nearlyBinary = record { input = ascii "[)>\u{1e}03004010\u{1c}\u{1d}\u{1f}BIM\u{1c}\u{1e}\u{4}"; lines = (0 ∷ 1 ∷ 3 ∷ []) ∷ (1 ∷ 3 ∷ 4 ∷ 2 ∷ 0 ∷ []) ∷ (2 ∷ 3 ∷ 6 ∷ 6 ∷ 0 ∷ []) ∷ (4 ∷ 3 ∷ 15 ∷ 3 ∷ 0 ∷ []) ∷ [] }
 
 -- `BI` in 03
 abbrev halfBinary : Case
-halfBinary = record { input = ascii "[)>\u{1e}03004010\u{1c}\u{1d}\u{1f}BI\u{1c}\u{1e}\u{4}"; lines = (0 ∷ 1 ∷ 3 ∷ []) ∷ (1 ∷ 3 ∷ 4 ∷ 2 ∷ []) ∷ (2 ∷ 3 ∷ 6 ∷ 6 ∷ []) ∷ (4 ∷ 3 ∷ 15 ∷ 2 ∷ []) ∷ [] }
+halfBinary = record { input = ascii "[)>\u{1e}03004010\u{1c}\u{1d}\u{1f}BI\u{1c}\u{1e}\u{4}"; lines = (0 ∷ 1 ∷ 3 ∷ []) ∷ (1 ∷ 3 ∷ 4 ∷ 2 ∷ 0 ∷ []) ∷ (2 ∷ 3 ∷ 6 ∷ 6 ∷ 0 ∷ []) ∷ (4 ∷ 3 ∷ 15 ∷ 2 ∷ 0 ∷ []) ∷ [] }
 
 -- Reading 12 and 13: permitted bytes go by the format; a bad byte in a header is 8; 12, then 10, then 11, or in 01 30 to 33
 
@@ -249,7 +249,7 @@ trailerInText = record { input = ascii "[)>\u{1e}07A\u{4}\u{1e}\u{4}"; lines = (
 
 -- count `03`
 abbrev leadingZero : Case
-leadingZero = record { input = ascii "[)>\u{1e}09\u{1d}A\u{1d}\u{1d}03\u{1d}\u{1e}\u{4}\u{1d}\u{1e}\u{4}"; lines = (0 ∷ 1 ∷ 5 ∷ []) ∷ (1 ∷ 9 ∷ 4 ∷ 2 ∷ []) ∷ (2 ∷ 9 ∷ 7 ∷ 1 ∷ []) ∷ (2 ∷ 9 ∷ 9 ∷ 0 ∷ []) ∷ (2 ∷ 9 ∷ 10 ∷ 2 ∷ []) ∷ (7 ∷ 9 ∷ 13 ∷ 3 ∷ []) ∷ [] }
+leadingZero = record { input = ascii "[)>\u{1e}09\u{1d}A\u{1d}\u{1d}03\u{1d}\u{1e}\u{4}\u{1d}\u{1e}\u{4}"; lines = (0 ∷ 1 ∷ 5 ∷ []) ∷ (1 ∷ 9 ∷ 4 ∷ 2 ∷ 0 ∷ []) ∷ (2 ∷ 9 ∷ 7 ∷ 1 ∷ 0 ∷ []) ∷ (2 ∷ 9 ∷ 9 ∷ 0 ∷ 0 ∷ []) ∷ (2 ∷ 9 ∷ 10 ∷ 2 ∷ 0 ∷ []) ∷ (7 ∷ 9 ∷ 13 ∷ 3 ∷ 0 ∷ []) ∷ [] }
 
 -- fifteen digits, far too many bytes
 abbrev fifteenDigits : Case

@@ -2,20 +2,20 @@
 -- are accepted, that the writing side has them too. All by computation. H is `[)>` RS.
 use Prim.Native.Nat.{ℕ}
 use mathlib.Core.Path.{_≡_, refl}
-use mathlib.Core.List.{List, [], _∷_, _++_, map, tail}
+use mathlib.Core.List.{List, [], _∷_, _++_, tail}
 use Rattle.label.specs.Bytes.{ascii, EOT, GS, RS}
 use Rattle.label.specs.Elements.{element06}
 use Rattle.label.specs.Segments.{tag03}
 use Rattle.label.specs.Formats.{edition2005, restByte, textByte}
-use Rattle.label.specs.Layout.{numbers}
 use Rattle.label.specs.Envelope.{Envelope, wholeRest, segments, elements, text, counted}
-use Rattle.label.specs.Message.{rowsOf, Each, Good}
+use Rattle.label.specs.Message.{rowsOf, ordinalsOf, Each, Good}
+use Rattle.label.specs.Answer.{eachNumbers}
 use Rattle.label.proofs.AllDefinitions.{all-definitions}
 use Rattle.cases.proofs.Cases.{Case, Stand, _and_, good}
 
 -- the message printed under 'Cartons to try': H `06` GS `1P7` GS `Q3` RS EOT
 abbrev pub carton : Case
-carton = record { input = ascii "[)>\u{1e}06\u{1d}1P7\u{1d}Q3\u{1e}\u{4}"; lines = (0 ∷ 1 ∷ 3 ∷ []) ∷ (1 ∷ 6 ∷ 4 ∷ 2 ∷ []) ∷ (3 ∷ 6 ∷ 7 ∷ 3 ∷ []) ∷ (3 ∷ 6 ∷ 11 ∷ 2 ∷ []) ∷ [] }
+carton = record { input = ascii "[)>\u{1e}06\u{1d}1P7\u{1d}Q3\u{1e}\u{4}"; lines = (0 ∷ 1 ∷ 3 ∷ []) ∷ (1 ∷ 6 ∷ 4 ∷ 2 ∷ 0 ∷ []) ∷ (3 ∷ 6 ∷ 7 ∷ 3 ∷ 0 ∷ []) ∷ (3 ∷ 6 ∷ 11 ∷ 2 ∷ 0 ∷ []) ∷ [] }
 
 -- nothing
 abbrev pub nothing : Case
@@ -27,7 +27,7 @@ noEnvelope = record { input = ascii "[)>\u{1e}\u{4}"; lines = (3 ∷ 4 ∷ []) �
 
 -- H `07` RS EOT
 abbrev pub emptyText : Case
-emptyText = record { input = ascii "[)>\u{1e}07\u{1e}\u{4}"; lines = (0 ∷ 1 ∷ 2 ∷ []) ∷ (1 ∷ 7 ∷ 4 ∷ 2 ∷ []) ∷ (7 ∷ 7 ∷ 6 ∷ 0 ∷ []) ∷ [] }
+emptyText = record { input = ascii "[)>\u{1e}07\u{1e}\u{4}"; lines = (0 ∷ 1 ∷ 2 ∷ []) ∷ (1 ∷ 7 ∷ 4 ∷ 2 ∷ 0 ∷ []) ∷ (7 ∷ 7 ∷ 6 ∷ 0 ∷ 0 ∷ []) ∷ [] }
 
 -- the first message less its EOT
 abbrev pub noTrailer : Case
@@ -47,7 +47,7 @@ lateTransport = record { input = ascii "[)>\u{1e}06\u{1d}1P7\u{1e}01\u{1e}\u{4}"
 
 -- H `09` GS `A` GS GS `3` GS RS EOT GS RS EOT
 abbrev pub payload : Case
-payload = record { input = ascii "[)>\u{1e}09\u{1d}A\u{1d}\u{1d}3\u{1d}\u{1e}\u{4}\u{1d}\u{1e}\u{4}"; lines = (0 ∷ 1 ∷ 5 ∷ []) ∷ (1 ∷ 9 ∷ 4 ∷ 2 ∷ []) ∷ (2 ∷ 9 ∷ 7 ∷ 1 ∷ []) ∷ (2 ∷ 9 ∷ 9 ∷ 0 ∷ []) ∷ (2 ∷ 9 ∷ 10 ∷ 1 ∷ []) ∷ (7 ∷ 9 ∷ 12 ∷ 3 ∷ []) ∷ [] }
+payload = record { input = ascii "[)>\u{1e}09\u{1d}A\u{1d}\u{1d}3\u{1d}\u{1e}\u{4}\u{1d}\u{1e}\u{4}"; lines = (0 ∷ 1 ∷ 5 ∷ []) ∷ (1 ∷ 9 ∷ 4 ∷ 2 ∷ 0 ∷ []) ∷ (2 ∷ 9 ∷ 7 ∷ 1 ∷ 0 ∷ []) ∷ (2 ∷ 9 ∷ 9 ∷ 0 ∷ 0 ∷ []) ∷ (2 ∷ 9 ∷ 10 ∷ 1 ∷ 0 ∷ []) ∷ (7 ∷ 9 ∷ 12 ∷ 3 ∷ 0 ∷ []) ∷ [] }
 
 -- the same with count `2`
 abbrev pub shortCount : Case
@@ -59,11 +59,11 @@ emptyElement = record { input = ascii "[)>\u{1e}06\u{1d}Q3\u{1d}\u{1e}\u{4}"; li
 
 -- H `03004010` FS GS US `N1` GS `A` US `B` FS RS EOT
 abbrev pub oneSegment : Case
-oneSegment = record { input = ascii "[)>\u{1e}03004010\u{1c}\u{1d}\u{1f}N1\u{1d}A\u{1f}B\u{1c}\u{1e}\u{4}"; lines = (0 ∷ 1 ∷ 5 ∷ []) ∷ (1 ∷ 3 ∷ 4 ∷ 2 ∷ []) ∷ (2 ∷ 3 ∷ 6 ∷ 6 ∷ []) ∷ (4 ∷ 3 ∷ 15 ∷ 2 ∷ []) ∷ (5 ∷ 3 ∷ 18 ∷ 1 ∷ []) ∷ (6 ∷ 3 ∷ 20 ∷ 1 ∷ []) ∷ [] }
+oneSegment = record { input = ascii "[)>\u{1e}03004010\u{1c}\u{1d}\u{1f}N1\u{1d}A\u{1f}B\u{1c}\u{1e}\u{4}"; lines = (0 ∷ 1 ∷ 5 ∷ []) ∷ (1 ∷ 3 ∷ 4 ∷ 2 ∷ 0 ∷ []) ∷ (2 ∷ 3 ∷ 6 ∷ 6 ∷ 0 ∷ []) ∷ (4 ∷ 3 ∷ 15 ∷ 2 ∷ 0 ∷ []) ∷ (5 ∷ 3 ∷ 18 ∷ 1 ∷ 0 ∷ []) ∷ (6 ∷ 3 ∷ 20 ∷ 1 ∷ 0 ∷ []) ∷ [] }
 
 -- H `02X`
 abbrev pub allTheRest : Case
-allTheRest = record { input = ascii "[)>\u{1e}02X"; lines = (0 ∷ 1 ∷ 2 ∷ []) ∷ (1 ∷ 2 ∷ 4 ∷ 2 ∷ []) ∷ (7 ∷ 2 ∷ 6 ∷ 1 ∷ []) ∷ [] }
+allTheRest = record { input = ascii "[)>\u{1e}02X"; lines = (0 ∷ 1 ∷ 2 ∷ []) ∷ (1 ∷ 2 ∷ 4 ∷ 2 ∷ 0 ∷ []) ∷ (7 ∷ 2 ∷ 6 ∷ 1 ∷ 0 ∷ []) ∷ [] }
 
 -- the table, with the one byte that its sixth case has more
 abbrev pub thirteen : ℕ → List Case
@@ -93,7 +93,7 @@ record Example : Type 0 where
   envelopes : List Envelope
 
 abbrev WrittenSo : Example → Type 0
-WrittenSo x = Good edition2005 (x .case .input) (x .envelopes) × (map numbers (rowsOf (x .envelopes)) ≡ tail (x .case .lines))
+WrittenSo x = Good edition2005 (x .case .input) (x .envelopes) × (eachNumbers (rowsOf (x .envelopes)) (ordinalsOf (x .envelopes)) ≡ tail (x .case .lines))
 
 abbrev acceptedCases : List Example
 acceptedCases =

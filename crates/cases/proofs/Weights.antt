@@ -18,22 +18,22 @@ with96 weight = ascii "[)>\u{1e}01\u{1d}96ABC\u{1d}840\u{1d}1\u{1d}1Z\u{1d}UP\u{
 -- so many rows: those in front of the weight, and others from it on
 abbrev rows02 : ℕ → List (List ℕ) → List (List ℕ)
 rows02 n more =
-    (0 ∷ 1 ∷ n ∷ []) ∷ (1 ∷ 1 ∷ 4 ∷ 2 ∷ []) ∷ (2 ∷ 1 ∷ 7 ∷ 2 ∷ [])
-    ∷ (3 ∷ 1 ∷ 9 ∷ 0 ∷ []) ∷ (3 ∷ 1 ∷ 10 ∷ 3 ∷ []) ∷ (3 ∷ 1 ∷ 14 ∷ 1 ∷ []) ∷ (3 ∷ 1 ∷ 16 ∷ 2 ∷ []) ∷ (3 ∷ 1 ∷ 19 ∷ 2 ∷ [])
-    ∷ (3 ∷ 1 ∷ 22 ∷ 0 ∷ []) ∷ (3 ∷ 1 ∷ 23 ∷ 0 ∷ []) ∷ (3 ∷ 1 ∷ 24 ∷ 0 ∷ []) ∷ (3 ∷ 1 ∷ 25 ∷ 0 ∷ []) ∷ more
+    (0 ∷ 1 ∷ n ∷ []) ∷ (1 ∷ 1 ∷ 4 ∷ 2 ∷ 0 ∷ []) ∷ (2 ∷ 1 ∷ 7 ∷ 2 ∷ 0 ∷ [])
+    ∷ (3 ∷ 1 ∷ 9 ∷ 0 ∷ 0 ∷ []) ∷ (3 ∷ 1 ∷ 10 ∷ 3 ∷ 0 ∷ []) ∷ (3 ∷ 1 ∷ 14 ∷ 1 ∷ 0 ∷ []) ∷ (3 ∷ 1 ∷ 16 ∷ 2 ∷ 0 ∷ []) ∷ (3 ∷ 1 ∷ 19 ∷ 2 ∷ 0 ∷ [])
+    ∷ (3 ∷ 1 ∷ 22 ∷ 0 ∷ 0 ∷ []) ∷ (3 ∷ 1 ∷ 23 ∷ 0 ∷ 0 ∷ []) ∷ (3 ∷ 1 ∷ 24 ∷ 0 ∷ 0 ∷ []) ∷ (3 ∷ 1 ∷ 25 ∷ 0 ∷ 0 ∷ []) ∷ more
 
 abbrev rows96 : ℕ → List (List ℕ) → List (List ℕ)
 rows96 n more =
-    (0 ∷ 1 ∷ n ∷ []) ∷ (1 ∷ 1 ∷ 4 ∷ 2 ∷ []) ∷ (2 ∷ 1 ∷ 7 ∷ 2 ∷ [])
-    ∷ (3 ∷ 1 ∷ 9 ∷ 3 ∷ []) ∷ (3 ∷ 1 ∷ 13 ∷ 3 ∷ []) ∷ (3 ∷ 1 ∷ 17 ∷ 1 ∷ []) ∷ (3 ∷ 1 ∷ 19 ∷ 2 ∷ []) ∷ (3 ∷ 1 ∷ 22 ∷ 2 ∷ [])
-    ∷ (3 ∷ 1 ∷ 25 ∷ 0 ∷ []) ∷ (3 ∷ 1 ∷ 26 ∷ 0 ∷ []) ∷ (3 ∷ 1 ∷ 27 ∷ 0 ∷ []) ∷ (3 ∷ 1 ∷ 28 ∷ 0 ∷ []) ∷ more
+    (0 ∷ 1 ∷ n ∷ []) ∷ (1 ∷ 1 ∷ 4 ∷ 2 ∷ 0 ∷ []) ∷ (2 ∷ 1 ∷ 7 ∷ 2 ∷ 0 ∷ [])
+    ∷ (3 ∷ 1 ∷ 9 ∷ 3 ∷ 0 ∷ []) ∷ (3 ∷ 1 ∷ 13 ∷ 3 ∷ 0 ∷ []) ∷ (3 ∷ 1 ∷ 17 ∷ 1 ∷ 0 ∷ []) ∷ (3 ∷ 1 ∷ 19 ∷ 2 ∷ 0 ∷ []) ∷ (3 ∷ 1 ∷ 22 ∷ 2 ∷ 0 ∷ [])
+    ∷ (3 ∷ 1 ∷ 25 ∷ 0 ∷ 0 ∷ []) ∷ (3 ∷ 1 ∷ 26 ∷ 0 ∷ 0 ∷ []) ∷ (3 ∷ 1 ∷ 27 ∷ 0 ∷ 0 ∷ []) ∷ (3 ∷ 1 ∷ 28 ∷ 0 ∷ 0 ∷ []) ∷ more
 
 -- a good weight of so many bytes
 abbrev good02 : String → ℕ → Case
-good02 weight n = record { input = with02 weight; lines = rows02 12 ((3 ∷ 1 ∷ 26 ∷ n ∷ []) ∷ []) }
+good02 weight n = record { input = with02 weight; lines = rows02 12 ((3 ∷ 1 ∷ 26 ∷ n ∷ 0 ∷ []) ∷ []) }
 
 abbrev good96 : String → ℕ → Case
-good96 weight n = record { input = with96 weight; lines = rows96 12 ((3 ∷ 1 ∷ 29 ∷ n ∷ []) ∷ []) }
+good96 weight n = record { input = with96 weight; lines = rows96 12 ((3 ∷ 1 ∷ 29 ∷ n ∷ 0 ∷ []) ∷ []) }
 
 -- one that is refused with a number, where it starts
 abbrev bad02 : String → ℕ → Case
@@ -44,10 +44,10 @@ bad96 weight number = record { input = with96 weight; lines = (number ∷ 29 ∷
 
 -- a weight that is left out in front of the cross match
 abbrev leftOut02 : Case
-leftOut02 = record { input = with02 "\u{1d}Y"; lines = rows02 13 ((3 ∷ 1 ∷ 26 ∷ 0 ∷ []) ∷ (3 ∷ 1 ∷ 27 ∷ 1 ∷ []) ∷ []) }
+leftOut02 = record { input = with02 "\u{1d}Y"; lines = rows02 13 ((3 ∷ 1 ∷ 26 ∷ 0 ∷ 0 ∷ []) ∷ (3 ∷ 1 ∷ 27 ∷ 1 ∷ 0 ∷ []) ∷ []) }
 
 abbrev leftOut96 : Case
-leftOut96 = record { input = with96 "\u{1d}N"; lines = rows96 13 ((3 ∷ 1 ∷ 29 ∷ 0 ∷ []) ∷ (3 ∷ 1 ∷ 30 ∷ 1 ∷ []) ∷ []) }
+leftOut96 = record { input = with96 "\u{1d}N"; lines = rows96 13 ((3 ∷ 1 ∷ 29 ∷ 0 ∷ 0 ∷ []) ∷ (3 ∷ 1 ∷ 30 ∷ 1 ∷ 0 ∷ []) ∷ []) }
 
 -- `1-1` as n/x, and behind it a weight without its unit
 abbrev behindBytes : Case

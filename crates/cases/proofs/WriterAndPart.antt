@@ -26,7 +26,7 @@ abbrev pub cartonBytes : Bytes
 cartonBytes = carton .input
 
 abbrev cartonRows : List ℕ
-cartonRows = 1 ∷ 6 ∷ 4 ∷ 2 ∷ 3 ∷ 6 ∷ 7 ∷ 3 ∷ 3 ∷ 6 ∷ 11 ∷ 2 ∷ []
+cartonRows = 1 ∷ 6 ∷ 4 ∷ 2 ∷ 0 ∷ 3 ∷ 6 ∷ 7 ∷ 3 ∷ 0 ∷ 3 ∷ 6 ∷ 11 ∷ 2 ∷ 0 ∷ []
 
 abbrev short : Bytes
 short = ascii "12345678901234"
@@ -34,10 +34,13 @@ short = ascii "12345678901234"
 abbrev long : Bytes
 long = ascii "1234567890123456"
 
--- n rows, each of them an indicator's
+-- n rows, each of them an indicator's, whose ordinals begin with o
+abbrev indicatorsFrom : ℕ → ℕ → List ℕ
+indicatorsFrom o zero = []
+indicatorsFrom o (suc n) = 1 ∷ 6 ∷ 4 ∷ 2 ∷ o ∷ indicatorsFrom (suc o) n
+
 abbrev manyIndicators : ℕ → List ℕ
-manyIndicators zero = []
-manyIndicators (suc n) = 1 ∷ 6 ∷ 4 ∷ 2 ∷ manyIndicators n
+manyIndicators n = indicatorsFrom 0 n
 
 -- `07` and a text that is too long by a byte
 abbrev textData : Bytes
@@ -49,13 +52,13 @@ weightData = ascii "01028401ZUP5LB5lb96ABC"
 
 abbrev weightRows : ℕ → ℕ → List ℕ
 weightRows start length =
-    1 ∷ 1 ∷ 0 ∷ 2 ∷ 2 ∷ 1 ∷ 2 ∷ 2 ∷ 3 ∷ 1 ∷ 0 ∷ 0 ∷ 3 ∷ 1 ∷ 4 ∷ 3 ∷ 3 ∷ 1 ∷ 7 ∷ 1 ∷ 3 ∷ 1 ∷ 7 ∷ 2 ∷ 3 ∷ 1 ∷ 9 ∷ 2
-    ∷ 3 ∷ 1 ∷ 0 ∷ 0 ∷ 3 ∷ 1 ∷ 0 ∷ 0 ∷ 3 ∷ 1 ∷ 0 ∷ 0 ∷ 3 ∷ 1 ∷ 0 ∷ 0 ∷ 3 ∷ 1 ∷ start ∷ length ∷ []
+    1 ∷ 1 ∷ 0 ∷ 2 ∷ 0 ∷ 2 ∷ 1 ∷ 2 ∷ 2 ∷ 0 ∷ 3 ∷ 1 ∷ 0 ∷ 0 ∷ 0 ∷ 3 ∷ 1 ∷ 4 ∷ 3 ∷ 0 ∷ 3 ∷ 1 ∷ 7 ∷ 1 ∷ 0 ∷ 3 ∷ 1 ∷ 7 ∷ 2 ∷ 0 ∷ 3 ∷ 1 ∷ 9 ∷ 2 ∷ 0
+    ∷ 3 ∷ 1 ∷ 0 ∷ 0 ∷ 0 ∷ 3 ∷ 1 ∷ 0 ∷ 0 ∷ 0 ∷ 3 ∷ 1 ∷ 0 ∷ 0 ∷ 0 ∷ 3 ∷ 1 ∷ 0 ∷ 0 ∷ 0 ∷ 3 ∷ 1 ∷ start ∷ length ∷ 0 ∷ []
 
 abbrev weightRows96 : ℕ → ℕ → List ℕ
 weightRows96 start length =
-    1 ∷ 1 ∷ 0 ∷ 2 ∷ 2 ∷ 1 ∷ 17 ∷ 2 ∷ 3 ∷ 1 ∷ 19 ∷ 3 ∷ 3 ∷ 1 ∷ 4 ∷ 3 ∷ 3 ∷ 1 ∷ 7 ∷ 1 ∷ 3 ∷ 1 ∷ 7 ∷ 2 ∷ 3 ∷ 1 ∷ 9 ∷ 2
-    ∷ 3 ∷ 1 ∷ 0 ∷ 0 ∷ 3 ∷ 1 ∷ 0 ∷ 0 ∷ 3 ∷ 1 ∷ 0 ∷ 0 ∷ 3 ∷ 1 ∷ 0 ∷ 0 ∷ 3 ∷ 1 ∷ start ∷ length ∷ []
+    1 ∷ 1 ∷ 0 ∷ 2 ∷ 0 ∷ 2 ∷ 1 ∷ 17 ∷ 2 ∷ 0 ∷ 3 ∷ 1 ∷ 19 ∷ 3 ∷ 0 ∷ 3 ∷ 1 ∷ 4 ∷ 3 ∷ 0 ∷ 3 ∷ 1 ∷ 7 ∷ 1 ∷ 0 ∷ 3 ∷ 1 ∷ 7 ∷ 2 ∷ 0 ∷ 3 ∷ 1 ∷ 9 ∷ 2 ∷ 0
+    ∷ 3 ∷ 1 ∷ 0 ∷ 0 ∷ 0 ∷ 3 ∷ 1 ∷ 0 ∷ 0 ∷ 0 ∷ 3 ∷ 1 ∷ 0 ∷ 0 ∷ 0 ∷ 3 ∷ 1 ∷ 0 ∷ 0 ∷ 0 ∷ 3 ∷ 1 ∷ start ∷ length ∷ 0 ∷ []
 
 abbrev weightRoom : Bytes
 weightRoom = replicate 32 0x2D
@@ -64,30 +67,31 @@ abbrev pub writerCases : List WriterCase
 writerCases =
     record { held = cartonBytes; rows = cartonRows; output = long; answer = 0 ∷ 15 ∷ []; after = cartonBytes ++ ascii "6" }
     -- contents from elsewhere, out of order and overlapping
-    ∷ record { held = ascii "Q31P706"; rows = 1 ∷ 6 ∷ 5 ∷ 2 ∷ 3 ∷ 6 ∷ 2 ∷ 3 ∷ 3 ∷ 6 ∷ 0 ∷ 2 ∷ []; output = long; answer = 0 ∷ 15 ∷ []; after = cartonBytes ++ ascii "6" }
+    ∷ record { held = ascii "Q31P706"; rows = 1 ∷ 6 ∷ 5 ∷ 2 ∷ 0 ∷ 3 ∷ 6 ∷ 2 ∷ 3 ∷ 0 ∷ 3 ∷ 6 ∷ 0 ∷ 2 ∷ 0 ∷ []; output = long; answer = 0 ∷ 15 ∷ []; after = cartonBytes ++ ascii "6" }
     -- an empty stretch at the end of the data
-    ∷ record { held = ascii "07"; rows = 1 ∷ 7 ∷ 0 ∷ 2 ∷ 7 ∷ 7 ∷ 2 ∷ 0 ∷ []; output = short; answer = 0 ∷ 8 ∷ []; after = emptyText .input ++ ascii "901234" }
+    ∷ record { held = ascii "07"; rows = 1 ∷ 7 ∷ 0 ∷ 2 ∷ 0 ∷ 7 ∷ 7 ∷ 2 ∷ 0 ∷ 0 ∷ []; output = short; answer = 0 ∷ 8 ∷ []; after = emptyText .input ++ ascii "901234" }
     -- a weight of version 02 with its unit, and of version 96 without; 21: the other way round, and with small letters
     ∷ record { held = weightData; rows = weightRows 11 3; output = weightRoom; answer = 0 ∷ 31 ∷ []; after = with02 "5LB" ++ ascii "-" }
     ∷ record { held = weightData; rows = weightRows96 11 1; output = weightRoom; answer = 0 ∷ 32 ∷ []; after = with96 "5" }
     ∷ record { held = weightData; rows = weightRows 11 1; output = weightRoom; answer = 21 ∷ []; after = weightRoom }
     ∷ record { held = weightData; rows = weightRows96 11 3; output = weightRoom; answer = 21 ∷ []; after = weightRoom }
     ∷ record { held = weightData; rows = weightRows 14 3; output = weightRoom; answer = 21 ∷ []; after = weightRoom }
-    -- 20: no whole row; too many; a stretch past the data, an empty one too, and one whose end is past 32 bits
+    -- 20: no whole row, four numbers to a row; too many; a stretch past the data, an empty one too, and one whose end is past 32 bits
     ∷ record { held = cartonBytes; rows = 1 ∷ 6 ∷ 4 ∷ []; output = long; answer = 20 ∷ []; after = long }
-    ∷ record { held = cartonBytes; rows = 1 ∷ 6 ∷ 14 ∷ 2 ∷ []; output = long; answer = 20 ∷ []; after = long }
-    ∷ record { held = cartonBytes; rows = 1 ∷ 6 ∷ 16 ∷ 0 ∷ []; output = long; answer = 20 ∷ []; after = long }
-    ∷ record { held = cartonBytes; rows = 1 ∷ 6 ∷ 4294967295 ∷ 2 ∷ []; output = long; answer = 20 ∷ []; after = long }
+    ∷ record { held = cartonBytes; rows = 1 ∷ 6 ∷ 4 ∷ 2 ∷ 3 ∷ 6 ∷ 7 ∷ 3 ∷ 3 ∷ 6 ∷ 11 ∷ 2 ∷ []; output = long; answer = 20 ∷ []; after = long }
+    ∷ record { held = cartonBytes; rows = 1 ∷ 6 ∷ 14 ∷ 2 ∷ 0 ∷ []; output = long; answer = 20 ∷ []; after = long }
+    ∷ record { held = cartonBytes; rows = 1 ∷ 6 ∷ 16 ∷ 0 ∷ 0 ∷ []; output = long; answer = 20 ∷ []; after = long }
+    ∷ record { held = cartonBytes; rows = 1 ∷ 6 ∷ 4294967295 ∷ 2 ∷ 0 ∷ []; output = long; answer = 20 ∷ []; after = long }
     ∷ record { held = cartonBytes; rows = manyIndicators 1025; output = long; answer = 20 ∷ []; after = long }
     ∷ record { held = cartonBytes; rows = manyIndicators 1024; output = long; answer = 21 ∷ []; after = long }
     -- 21: no rows; an indicator that says another format; an element too few bytes long; a kind that the format hasn't; before 22
     ∷ record { held = cartonBytes; rows = []; output = long; answer = 21 ∷ []; after = long }
-    ∷ record { held = cartonBytes; rows = 1 ∷ 5 ∷ 4 ∷ 2 ∷ 3 ∷ 6 ∷ 7 ∷ 3 ∷ []; output = long; answer = 21 ∷ []; after = long }
-    ∷ record { held = cartonBytes; rows = 1 ∷ 6 ∷ 4 ∷ 2 ∷ 3 ∷ 6 ∷ 7 ∷ 1 ∷ []; output = long; answer = 21 ∷ []; after = long }
-    ∷ record { held = cartonBytes; rows = 1 ∷ 6 ∷ 4 ∷ 2 ∷ 4 ∷ 6 ∷ 7 ∷ 3 ∷ []; output = []; answer = 21 ∷ []; after = [] }
+    ∷ record { held = cartonBytes; rows = 1 ∷ 5 ∷ 4 ∷ 2 ∷ 0 ∷ 3 ∷ 6 ∷ 7 ∷ 3 ∷ 0 ∷ []; output = long; answer = 21 ∷ []; after = long }
+    ∷ record { held = cartonBytes; rows = 1 ∷ 6 ∷ 4 ∷ 2 ∷ 0 ∷ 3 ∷ 6 ∷ 7 ∷ 1 ∷ 0 ∷ []; output = long; answer = 21 ∷ []; after = long }
+    ∷ record { held = cartonBytes; rows = 1 ∷ 6 ∷ 4 ∷ 2 ∷ 0 ∷ 4 ∷ 6 ∷ 7 ∷ 3 ∷ 0 ∷ []; output = []; answer = 21 ∷ []; after = [] }
     -- 21: a message over the limit; and with a byte less 22
-    ∷ record { held = textData; rows = 1 ∷ 7 ∷ 0 ∷ 2 ∷ 7 ∷ 7 ∷ 2 ∷ 4089 ∷ []; output = short; answer = 21 ∷ []; after = short }
-    ∷ record { held = textData; rows = 1 ∷ 7 ∷ 0 ∷ 2 ∷ 7 ∷ 7 ∷ 2 ∷ 4088 ∷ []; output = short; answer = 22 ∷ []; after = short }
+    ∷ record { held = textData; rows = 1 ∷ 7 ∷ 0 ∷ 2 ∷ 0 ∷ 7 ∷ 7 ∷ 2 ∷ 4089 ∷ 0 ∷ []; output = short; answer = 21 ∷ []; after = short }
+    ∷ record { held = textData; rows = 1 ∷ 7 ∷ 0 ∷ 2 ∷ 0 ∷ 7 ∷ 7 ∷ 2 ∷ 4088 ∷ 0 ∷ []; output = short; answer = 22 ∷ []; after = short }
     -- 22
     ∷ record { held = cartonBytes; rows = cartonRows; output = short; answer = 22 ∷ []; after = short }
     ∷ []

@@ -13,10 +13,9 @@ use Rattle.label.specs.declared.Reading.the-variants.{Accepted, Refused}
 use Rattle.label.specs.declared.Reason.the-variants.{NoRoom}
 use Rattle.label.specs.Bytes.{Bytes}
 use Rattle.label.specs.Formats.{edition2005}
-use Rattle.label.specs.Layout.{allNumbers}
-use Rattle.label.specs.Message.{rowsOf}
+use Rattle.label.specs.Message.{rowsOf, numbersOf}
 use Rattle.label.specs.ReadMessage.{Outcome, read, refused, reading}
-use Rattle.label.specs.Answer.{accepted, refusal, roomOf, answered, readAnswer, overlaid, filled, tableAfter, rowsRead}
+use Rattle.label.specs.Answer.{accepted, refusal, roomOf, answered, readAnswer, overlaid, filled, tableAfter, numbersRead}
 use Rattle.label.proofs.Tests.{cond-yes, cond-no}
 use Rattle.judge.specs.Shown.{judgedAs}
 use Rattle.judge.proofs.Judged.{rows-judged}
@@ -36,12 +35,12 @@ unfolding readAnswer tableAfter
 told m table after answer by = record { answered-so = by .answered-so; filled-so = by .filled-so }
 
 accepted-by : (o : Outcome) (counts : Counts) (table : List ℕ) → judgedAs o ≡ Accepted counts
-    → ToldBy o table (cond (ltb (roomOf table) (counts .rows)) table (overlaid (allNumbers (rowsRead o)) table)) (cond (ltb (roomOf table) (counts .rows)) (refusal NoRoom 0) (accepted (counts .envelopes) (counts .rows)))
+    → ToldBy o table (cond (ltb (roomOf table) (counts .rows)) table (overlaid (numbersRead o) table)) (cond (ltb (roomOf table) (counts .rows)) (refusal NoRoom 0) (accepted (counts .envelopes) (counts .rows)))
 accepted-by (read es) counts table says =
     let is : counts ≡ record { envelopes = length es; rows = length (rowsOf es) } = cc in
     record {
       answered-so = ap (λ (c : Counts). cond (ltb (roomOf table) (c .rows)) (refusal NoRoom 0) (accepted (c .envelopes) (c .rows))) is;
-      filled-so = ap (λ (c : Counts). cond (ltb (roomOf table) (c .rows)) table (overlaid (allNumbers (rowsOf es)) table)) is;
+      filled-so = ap (λ (c : Counts). cond (ltb (roomOf table) (c .rows)) table (overlaid (numbersOf es) table)) is;
     }
 accepted-by (refused r p) counts table says = let z : _≡_ {A = ℕ} 0 1 = cc in record { answered-so = absurd (omega arith); filled-so = absurd (omega arith) }
 
@@ -57,7 +56,7 @@ module _ (m : Bytes) (table : List ℕ) where
 
   module _ (counts : Counts) (says : judgedAs (reading edition2005 m) ≡ Accepted counts) where
     -- accepted with room, refused for lack of it
-    pub is-accepted : Told m table (cond (ltb (roomOf table) (counts .rows)) table (overlaid (allNumbers (rowsRead (reading edition2005 m))) table)) (cond (ltb (roomOf table) (counts .rows)) (refusal NoRoom 0) (accepted (counts .envelopes) (counts .rows)))
+    pub is-accepted : Told m table (cond (ltb (roomOf table) (counts .rows)) table (overlaid (numbersRead (reading edition2005 m)) table)) (cond (ltb (roomOf table) (counts .rows)) (refusal NoRoom 0) (accepted (counts .envelopes) (counts .rows)))
     is-accepted = told m table _ _ (accepted-by (reading edition2005 m) counts table says)
 
     pub lacks-room : roomOf table < counts .rows → Told m table table (refusal NoRoom 0)
@@ -65,7 +64,7 @@ module _ (m : Bytes) (table : List ℕ) where
         let less = lt-ltb (roomOf table) (counts .rows) short in
         record { answered-so = sym (cond-yes _ _ _ less) ∙ is-accepted .answered-so; filled-so = sym (cond-yes _ _ _ less) ∙ is-accepted .filled-so }
 
-    pub has-room : counts .rows ≤ roomOf table → Told m table (overlaid (allNumbers (rowsRead (reading edition2005 m))) table) (accepted (counts .envelopes) (counts .rows))
+    pub has-room : counts .rows ≤ roomOf table → Told m table (overlaid (numbersRead (reading edition2005 m)) table) (accepted (counts .envelopes) (counts .rows))
     has-room enough =
         let fits = le-ltb (roomOf table) (counts .rows) enough in
         record { answered-so = sym (cond-no _ _ _ fits) ∙ is-accepted .answered-so; filled-so = sym (cond-no _ _ _ fits) ∙ is-accepted .filled-so }

@@ -1,19 +1,20 @@
 -- The rows that are given, from an index on: one turn of a loop over them, and what it says that they stand.
 use Prim.Native.Nat.{ℕ, _+_, _%_, _/_, _≤_, _<_}
-use mathlib.Core.Path.{_≡_, sym, ap, _∙_}
+use mathlib.Core.Path.{_≡_, refl, sym, ap, _∙_}
 use mathlib.Core.Bool.{Bool, true, false, _&&_}
 use mathlib.Core.List.{List, [], _∷_}
 use native.Mathlib.Omega.{arith}
 use borrow.Author.Tests.{leb-true, le-leb, lt-leb, eqb-true, eq-eqb, ne-eqb}
-use lib.ListN.{length, getD, drop}
-use lib.Dec.{leb}
+use lib.ListN.{length, getD, drop, length-drop}
+use lib.Dec.{leb, eqb}
 use Rattle.label.specs.Bytes.{Bytes, every}
 use Rattle.label.specs.Limits.{mostRows, rowWidth}
-use Rattle.label.specs.Layout.{Row}
-use Rattle.label.specs.Writing.{rowsIn, inside, rowsStand}
+use Rattle.label.specs.Layout.{Row, rowFrom}
+use Rattle.label.specs.Writing.{rowsIn, ordinalsIn, inside, rowsStand, sameOrdinals}
+use Rattle.label.specs.Counting.{kindsOf, raised, countingOn, byCounting}
 use Rattle.label.proofs.Tests.{both, cond-yes, cond-no}
-use Rattle.leaves.proofs.Turns.{drop-step, drop-past, and-assoc, and-true}
-use Rattle.given.specs.Given.{Whole, rowFrom, noRow, rowOrNone}
+use Rattle.leaves.proofs.Turns.{drop-step, four-there, drop-past, and-assoc, and-true}
+use Rattle.given.specs.Given.{Whole, noRow, rowOrNone, ordinalsCounted, countedFrom}
 
 module _ (ns : List ℕ) (i : ℕ) where
   -- a row's numbers all stand there, or not
@@ -23,16 +24,18 @@ module _ (ns : List ℕ) (i : ℕ) where
   pub row-not-there : length ns < i + rowWidth → rowOrNone ns i ≡ noRow
   row-not-there outside = cond-no _ _ _ (lt-leb (i + rowWidth) (length ns) outside)
 
+  -- the numbers of a row, and what lies behind them
+  five-there : i + rowWidth ≤ length ns → drop i ns ≡ getD ns i 0 ∷ getD ns (i + 1) 0 ∷ getD ns (i + 2) 0 ∷ getD ns (i + 3) 0 ∷ getD ns (i + 4) 0 ∷ drop (i + rowWidth) ns
+  five-there inside =
+      let five : i + 4 + 1 ≡ i + rowWidth = omega arith in
+      four-there ns i (omega arith)
+      ∙ ap (λ l. getD ns i 0 ∷ getD ns (i + 1) 0 ∷ getD ns (i + 2) 0 ∷ getD ns (i + 3) 0 ∷ l) (drop-step ns (i + 4) (omega arith) ∙ ap (λ n. getD ns (i + 4) 0 ∷ drop n ns) five)
+
   pub rows-step : i + rowWidth ≤ length ns → rowsIn (drop i ns) ≡ rowFrom ns i ∷ rowsIn (drop (i + rowWidth) ns)
-  rows-step inside =
-      let two : i + 1 + 1 ≡ i + 2 = omega arith in
-      let three : i + 2 + 1 ≡ i + 3 = omega arith in
-      let four : i + 3 + 1 ≡ i + 4 = omega arith in
-      let d0 = drop-step ns i (omega arith) in
-      let d1 = drop-step ns (i + 1) (omega arith) ∙ ap (λ n. getD ns (i + 1) 0 ∷ drop n ns) two in
-      let d2 = drop-step ns (i + 2) (omega arith) ∙ ap (λ n. getD ns (i + 2) 0 ∷ drop n ns) three in
-      let d3 = drop-step ns (i + 3) (omega arith) ∙ ap (λ n. getD ns (i + 3) 0 ∷ drop n ns) four in
-      ap rowsIn (d0 ∙ ap (λ l. getD ns i 0 ∷ l) (d1 ∙ ap (λ l. getD ns (i + 1) 0 ∷ l) (d2 ∙ ap (λ l. getD ns (i + 2) 0 ∷ l) d3)))
+  rows-step inside = ap rowsIn (five-there inside)
+
+  ordinals-step : i + rowWidth ≤ length ns → ordinalsIn (drop i ns) ≡ getD ns (i + 4) 0 ∷ ordinalsIn (drop (i + rowWidth) ns)
+  ordinals-step inside = ap ordinalsIn (five-there inside)
 
   pub rows-past : length ns ≤ i → rowsIn (drop i ns) ≡ []
   rows-past past = ap rowsIn (drop-past ns i past)
@@ -40,6 +43,45 @@ module _ (ns : List ℕ) (i : ℕ) where
   -- whole rows: behind each there is another, or the end
   pub next-whole : Whole ns → i % rowWidth ≡ 0 → i < length ns → i + rowWidth ≤ length ns
   next-whole whole at inside = omega arith
+
+-- Ordinals: the first row's and, one turn of a loop, the next
+
+module _ (ns : List ℕ) where
+  no-row-left : (ns : List ℕ) → length ns < rowWidth → rowsIn ns ≡ []
+  no-row-left [] short = refl
+  no-row-left (k ∷ []) short = refl
+  no-row-left (k ∷ (f ∷ [])) short = refl
+  no-row-left (k ∷ (f ∷ (s ∷ []))) short = refl
+  no-row-left (k ∷ (f ∷ (s ∷ (l ∷ [])))) short = refl
+  no-row-left (k ∷ (f ∷ (s ∷ (l ∷ (o ∷ ns))))) short = absurd (omega arith)
+
+  no-ordinal-left : (ns : List ℕ) → length ns < rowWidth → ordinalsIn ns ≡ []
+  no-ordinal-left [] short = refl
+  no-ordinal-left (k ∷ []) short = refl
+  no-ordinal-left (k ∷ (f ∷ [])) short = refl
+  no-ordinal-left (k ∷ (f ∷ (s ∷ []))) short = refl
+  no-ordinal-left (k ∷ (f ∷ (s ∷ (l ∷ [])))) short = refl
+  no-ordinal-left (k ∷ (f ∷ (s ∷ (l ∷ (o ∷ ns))))) short = absurd (omega arith)
+
+  pub none-counted : length ns < rowWidth → true ≡ ordinalsCounted ns
+  none-counted short = sym (λ j. sameOrdinals (byCounting (kindsOf (no-row-left ns short j))) (no-ordinal-left ns short j))
+
+  pub counted-first : rowWidth ≤ length ns → (eqb 0 (getD ns 4 0) && countedFrom ns rowWidth 0) ≡ ordinalsCounted ns
+  counted-first some = sym (λ j. sameOrdinals (byCounting (kindsOf (rows-step ns 0 some j))) (ordinals-step ns 0 some j))
+
+  module _ (ok : Bool) (i ordinal : ℕ) where
+    pub counted-turn : i + rowWidth ≤ length ns → (o : ℕ) → o ≡ raised ordinal (getD ns i 0)
+        → ((ok && eqb o (getD ns (i + 4) 0)) && countedFrom ns (i + rowWidth) o) ≡ (ok && countedFrom ns i ordinal)
+    counted-turn inside o is =
+        sym
+        (ap (λ t. ok && t) (λ j. sameOrdinals (countingOn ordinal (kindsOf (rows-step ns i inside j))) (ordinals-step ns i inside j))
+        ∙ ap (λ n. ok && (eqb n (getD ns (i + 4) 0) && countedFrom ns (i + rowWidth) n)) (sym is)
+        ∙ and-assoc ok (eqb o (getD ns (i + 4) 0)) (countedFrom ns (i + rowWidth) o))
+
+    pub counted-end : i ≤ length ns → length ns < i + rowWidth → ok ≡ (ok && countedFrom ns i ordinal)
+    counted-end upTo short =
+        let few : length (drop i ns) < rowWidth = omega (arith, length-drop i ns) in
+        sym (ap (λ t. ok && t) (λ j. sameOrdinals (countingOn ordinal (kindsOf (no-row-left (drop i ns) few j))) (no-ordinal-left (drop i ns) few j)) ∙ and-true ok)
 
 module _ (test : Row → Bool) (ns : List ℕ) (ok : Bool) (i : ℕ) where
   pub all-turn : i + rowWidth ≤ length ns → ((ok && test (rowFrom ns i)) && every test (rowsIn (drop (i + rowWidth) ns))) ≡ (ok && every test (rowsIn (drop i ns)))

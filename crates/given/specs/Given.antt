@@ -3,31 +3,37 @@ use Prim.Native.Nat.{ℕ, _+_, _%_}
 use mathlib.Core.Path.{_≡_}
 use mathlib.Core.Bool.{Bool, true, false, _&&_, cond}
 use mathlib.Core.List.{List, [], _∷_}
-use lib.ListN.{length, getD}
+use lib.ListN.{length, drop}
 use lib.Dec.{leb, eqb}
 use Rattle.label.specs.Limits.{rowWidth}
-use Rattle.label.specs.Layout.{Row}
+use Rattle.label.specs.Layout.{Row, rowFrom}
+use Rattle.label.specs.Writing.{rowsIn, ordinalsIn, sameOrdinals}
+use Rattle.label.specs.Counting.{kindsOf, countingOn, byCounting}
 use Rattle.given.specs.declared.Given.{Given}
 
 -- whole rows
 abbrev pub Whole : List ℕ → Type 0
 Whole ns = length ns % rowWidth ≡ 0
 
--- the row whose numbers stand from an index on
-abbrev pub rowFrom : List ℕ → ℕ → Row
-rowFrom ns at = record { kind = getD ns at 0; format = getD ns (at + 1) 0; start = getD ns (at + 2) 0; length = getD ns (at + 3) 0 }
-
--- the row of four zeros
+-- the row of zeros
 abbrev pub noRow : Row
 noRow = record { kind = 0; format = 0; start = 0; length = 0 }
 
--- the row from an index on where its four numbers stand there, else four zeros
+-- the row from an index on where its numbers stand there, else the row of zeros
 abbrev pub rowOrNone : List ℕ → ℕ → Row
 rowOrNone ns at = cond (leb (at + rowWidth) (length ns)) (rowFrom ns at) noRow
 
--- the row of four numbers
+-- the row of these numbers
 abbrev pub asRow : Given → Row
 asRow g = record { kind = g .kind; format = g .format; start = g .start; length = g .length }
+
+-- whether the ordinals given are those that counting the rows' indicators comes to
+abbrev pub ordinalsCounted : List ℕ → Bool
+ordinalsCounted ns = sameOrdinals (byCounting (kindsOf (rowsIn ns))) (ordinalsIn ns)
+
+-- what counting on says of the rows from an index on, behind a row with an ordinal
+abbrev pub countedFrom : List ℕ → ℕ → ℕ → Bool
+countedFrom ns i ordinal = sameOrdinals (countingOn ordinal (kindsOf (rowsIn (drop i ns)))) (ordinalsIn (drop i ns))
 
 -- alike in all but the start: the same kind, format and length
 unfoldable pub alikeRow : Row → Row → Bool

@@ -1,17 +1,19 @@
-// The rows that the writer is given: whether they stand, one of them, and whether a cursor's row is like one.
+// The rows that the writer is given: whether they stand, whether their ordinals are true, one of them, and whether a cursor's row is like one.
 use label::MOST_ROWS;
 use label::ROW;
 use walk::Cursor;
 ghost use mathlib.Core.Path.{_≡_};
-ghost use Prim.Native.Nat.{_+_, _≤_};
-ghost use lib.ListN.{length};
+ghost use Prim.Native.Nat.{_+_, _≤_, _<_};
+ghost use lib.ListN.{length, getD};
 ghost use Rattle.label.specs.Bytes.{every};
 ghost use Rattle.label.specs.Limits.{rowWidth};
+ghost use Rattle.label.specs.Layout.{rowFrom};
 ghost use Rattle.label.specs.Writing.{rowsIn, inside, rowsStand};
+ghost use Rattle.label.specs.Counting.{raised};
 ghost use Rattle.walk.specs.Cursors.{rowOf};
-ghost use Rattle.given.specs.Given.{Whole, rowFrom, noRow, rowOrNone, asRow, alikeRow};
+ghost use Rattle.given.specs.Given.{Whole, noRow, rowOrNone, asRow, ordinalsCounted, alikeRow};
 
-// A row's four numbers.
+// A row's numbers but its ordinal.
 pub struct Given {
     pub kind: u32,
     pub format: u32,
@@ -19,7 +21,7 @@ pub struct Given {
     pub length: u32,
 }
 
-// The row whose four numbers stand from an index on.
+// The row whose numbers stand from an index on.
 fn row_there(rows: &[u32], at: usize) -> Given
     requires { ⌜ at + rowWidth ≤ length (now rows) ⌝ }
     ensures { λ r. ⌜ asRow r ≡ rowFrom (now (rows .entry)) at ⌝ }
@@ -32,7 +34,7 @@ fn row_there(rows: &[u32], at: usize) -> Given
     }
 }
 
-// Four zeros, where no row stands.
+// Zeros, where no row stands.
 fn no_row() -> Given
     ensures { λ r. ⌜ asRow r ≡ noRow ⌝ }
 {
@@ -44,7 +46,7 @@ fn no_row() -> Given
     }
 }
 
-// The row from an index on; four zeros where its numbers don't all stand there.
+// The row from an index on; zeros where its numbers don't all stand there.
 pub fn row_from(rows: &[u32], at: usize) -> Given
     ensures { λ r. ⌜ asRow r ≡ rowOrNone (now (rows .entry)) at ⌝ }
 {
@@ -84,6 +86,39 @@ pub fn rows_stand(held: &[u8], rows: &[u32]) -> bool
         return false;
     }
     all_inside(held, rows)
+}
+
+// The ordinal at the row from an index on, behind a row with an ordinal: an indicator begins the next envelope, and no kind is below its own.
+fn raised_at(rows: &[u32], i: usize, ordinal: usize) -> usize
+    requires { ⌜ (i < length (now rows)) × (ordinal ≤ i) ⌝ }
+    ensures { λ r. ⌜ r ≡ raised ordinal (getD (now (rows .entry)) i 0) ⌝ }
+{
+    if rows[i] < 2 { ordinal + 1 } else { ordinal }
+}
+
+// A number given as one to count with.
+fn wide(x: u32) -> usize
+    ensures { λ r. ⌜ r ≡ x ⌝ }
+{
+    x as usize
+}
+
+// Whether the ordinals are those that counting the indicators comes to. A message with these rows has no others.
+pub fn ordinals_counted(rows: &[u32]) -> bool
+    ensures { λ r. ⌜ r ≡ ordinalsCounted (now (rows .entry)) ⌝ }
+{
+    if rows.len() < ROW {
+        return true;
+    }
+    let mut ordinal = 0;
+    let mut ok = ordinal == wide(rows[4]);
+    let mut i = ROW;
+    while i + ROW <= rows.len() {
+        ordinal = raised_at(rows, i, ordinal);
+        ok = ok & (ordinal == wide(rows[i + 4]));
+        i += ROW;
+    }
+    ok
 }
 
 // Whether the row that a cursor stands at has the kind, the format and the length of the row from an index on, as `row_from` has it.

@@ -11,16 +11,17 @@ use lib.Dec.{ltb}
 use Rattle.label.specs.declared.Reason.{Reason}
 use Rattle.label.specs.declared.Reason.the-variants.{NoRoom}
 use Rattle.label.specs.Bytes.{Bytes}
-use Rattle.label.specs.Limits.{rowWidth}
+use Rattle.label.specs.Limits.{mostRows, rowWidth}
 use Rattle.label.specs.Formats.{Edition}
 use Rattle.label.specs.Layout.{Row, allNumbers}
 use Rattle.label.specs.Envelope.{Envelope}
-use Rattle.label.specs.Message.{rowsOf}
+use Rattle.label.specs.Message.{rowsOf, ordinalsOf, numbersOf}
 use Rattle.label.specs.ReadMessage.{Outcome, read, refused, reading}
-use Rattle.label.specs.Answer.{accepted, refusal, roomOf, answered, readAnswer, overlaid, filled, tableAfter}
+use Rattle.label.specs.Answer.{accepted, refusal, roomOf, answered, readAnswer, overlaid, filled, tableAfter, rowsRead}
 use Rattle.label.specs.Place.{PlaceFor}
 use Rattle.label.specs.Promised.{NoneGood, IsRefused, RefusedForAnyRoom, AcceptedAs, RefusedSo, Alike}
 use Rattle.label.proofs.Numbers.{reasons-by-number}
+use Rattle.label.proofs.Ordinals.{ordinals-long}
 use Rattle.label.proofs.ReadingSound.{ReadingSo, reading-so}
 use Rattle.label.proofs.ReadingComplete.{reading-pass}
 use Rattle.label.proofs.Places.{place-inside}
@@ -33,13 +34,25 @@ refused-or-good edition m none-good = by (reading edition m) refl (reading-so ed
     by (read es) says good = absurd (none-good es good)
     by (refused r p) says so = record { reason = r; place = p; says = says }
 
+-- the rows that are read are no more than a message may have
+pub rows-few : (edition : Edition) (m : Bytes) → length (rowsRead (reading edition m)) ≤ mostRows
+rows-few edition m = by (reading edition m) (reading-so edition m)
+  where
+    by : (o : Outcome) → ReadingSo edition m o → length (rowsRead o) ≤ mostRows
+    by (read es) good = good .notTooMany
+    by (refused r p) so = omega arith
+
 pub same-list : (es es′ : List Envelope) → read es ≡ read es′ → es ≡ es′
 same-list es es′ same = cc
 
--- a row is so many numbers
-pub numbers-wide : (rs : List Row) → length (allNumbers rs) ≡ rowWidth * length rs
-numbers-wide [] = refl
-numbers-wide (r ∷ rs) = omega (arith, numbers-wide rs)
+-- a row with its ordinal is so many numbers
+pub numbers-wide : (rs : List Row) (os : List ℕ) → length os ≡ length rs → length (allNumbers rs os) ≡ rowWidth * length rs
+numbers-wide [] os same = refl
+numbers-wide (r ∷ rs) [] same = absurd (omega (arith, same))
+numbers-wide (r ∷ rs) (o ∷ os) same = omega (arith, numbers-wide rs os (omega (arith, same)))
+
+pub numbers-of-wide : (es : List Envelope) → length (numbersOf es) ≡ rowWidth * length (rowsOf es)
+numbers-of-wide es = numbers-wide (rowsOf es) (ordinalsOf es) (ordinals-long es)
 
 module _ (edition : Edition) (m : Bytes) (es : List Envelope) where
   pub answered-with-room : (room : ℕ) → reading edition m ≡ read es → length (rowsOf es) ≤ room → readAnswer edition m room ≡ accepted (length es) (length (rowsOf es))
@@ -52,17 +65,17 @@ module _ (edition : Edition) (m : Bytes) (es : List Envelope) where
   answered-without room says short =
       ap (answered room) says ∙ ap (λ t. cond t (refusal NoRoom 0) (accepted (length es) (length (rowsOf es)))) (lt-ltb room (length (rowsOf es)) short)
 
-  pub filled-with-room : (table : List ℕ) → reading edition m ≡ read es → length (rowsOf es) ≤ roomOf table → tableAfter edition m table ≡ overlaid (allNumbers (rowsOf es)) table
+  pub filled-with-room : (table : List ℕ) → reading edition m ≡ read es → length (rowsOf es) ≤ roomOf table → tableAfter edition m table ≡ overlaid (numbersOf es) table
   unfolding tableAfter
   filled-with-room table says enough =
-      ap (filled table) says ∙ ap (λ t. cond t table (overlaid (allNumbers (rowsOf es)) table)) (le-ltb (roomOf table) (length (rowsOf es)) enough)
+      ap (filled table) says ∙ ap (λ t. cond t table (overlaid (numbersOf es) table)) (le-ltb (roomOf table) (length (rowsOf es)) enough)
 
--- two messages whose lists have the same number of envelopes and the same rows are answered alike
-pub alike : (edition : Edition) (m m′ : Bytes) (es es′ : List Envelope) → reading edition m ≡ read es → reading edition m′ ≡ read es′ → length es′ ≡ length es → rowsOf es′ ≡ rowsOf es → Alike edition m m′
+-- two messages whose lists have the same number of envelopes and the same rows with the same ordinals are answered alike
+pub alike : (edition : Edition) (m m′ : Bytes) (es es′ : List Envelope) → reading edition m ≡ read es → reading edition m′ ≡ read es′ → length es′ ≡ length es → rowsOf es′ ≡ rowsOf es → ordinalsOf es′ ≡ ordinalsOf es → Alike edition m m′
 unfolding readAnswer tableAfter
-alike edition m m′ es es′ says says′ envelopes rows = record {
+alike edition m m′ es es′ says says′ envelopes rows ordinals = record {
   answers = λ room. ap (answered room) says′ ∙ (λ i. cond (ltb room (length (rows i))) (refusal NoRoom 0) (accepted (envelopes i) (length (rows i)))) ∙ sym (ap (answered room) says);
-  tables = λ table. ap (filled table) says′ ∙ (λ i. cond (ltb (roomOf table) (length (rows i))) table (overlaid (allNumbers (rows i)) table)) ∙ sym (ap (filled table) says);
+  tables = λ table. ap (filled table) says′ ∙ (λ i. cond (ltb (roomOf table) (length (rows i))) table (overlaid (allNumbers (rows i) (ordinals i)) table)) ∙ sym (ap (filled table) says);
 }
 
 -- What the answer's numbers tell, for a table's room

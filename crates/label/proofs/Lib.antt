@@ -21,6 +21,8 @@ pub mod ReadingComplete
 pub mod PlaceOnce
 pub mod FaultFormats
 pub mod PayloadFree
+pub mod OwnEnvelope
+pub mod Ordinals
 pub mod Answers
 pub mod Rendering
 pub mod RowItems

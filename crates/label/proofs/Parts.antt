@@ -14,7 +14,7 @@ use Rattle.label.specs.Part.{emptyStart, stretchAt, partOf}
 use Rattle.label.specs.Writing.{itemIn}
 use Rattle.label.specs.Promised.{NoneGood, InOrder, bytesAt, contentAt}
 use Rattle.label.proofs.ReadingComplete.{reading-pass}
-use Rattle.label.proofs.RowItems.{rows-in-numbers, numbers-items}
+use Rattle.label.proofs.RowItems.{rows-named}
 use Rattle.label.proofs.Answers.{refused-or-good}
 
 -- a row's stretch holds what the row names
@@ -38,7 +38,7 @@ module _ (edition : Edition) (m : Bytes) where
     own-content n =
         ap (bytesAt m) (rows-own n)
         ∙ stretch-named m (rowsOf es) n
-        ∙ ap (λ is. contentAt is n) (ap (map (itemIn m)) (sym (rows-in-numbers (rowsOf es))) ∙ numbers-items edition m es good)
+        ∙ ap (λ is. contentAt is n) (rows-named edition m es good)
 
     pub none-behind : (n : ℕ) → length (rowsOf es) ≤ n → partOf edition m n ≡ emptyStart
     none-behind n past = rows-own n ∙ behind-the-last (rowsOf es) n past

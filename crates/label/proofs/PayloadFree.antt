@@ -1,4 +1,4 @@
--- A counted payload is free: the message around it, and every row, depend on its length alone.
+-- A counted payload is free: the message around it, every row and every ordinal depend on its length alone.
 use Prim.Native.Nat.{ℕ, _+_, _≤_}
 use mathlib.Core.Path.{_≡_, refl, sym, ap, _∙_, subst}
 use mathlib.Core.Bool.{Bool, false, not, _&&_, _||_, cond}
@@ -8,10 +8,10 @@ use lib.ListN.{length, length-append}
 use Rattle.label.specs.Bytes.{Bytes, EOT, GS, RS, every, isEmpty}
 use Rattle.label.specs.Limits.{longest, mostRows}
 use Rattle.label.specs.Formats.{Edition}
-use Rattle.label.specs.Layout.{Part, mark, item, marks, Row, bytesOf, rowAt, rowsFrom, separated, ended}
+use Rattle.label.specs.Layout.{Part, mark, item, marks, Row, bytesOf, itemsOf, rowAt, rowsFrom, separated, ended}
 use Rattle.label.specs.Envelope.{Envelope, counted, Within}
 use Rattle.label.specs.Written.{rowed, indicator, valueRow, bodyRow, parts}
-use Rattle.label.specs.Message.{header, isTransport, isRest, isRestAlone, transportOnlyFirst, messageParts, message, rowsOf, Each, Good}
+use Rattle.label.specs.Message.{header, isTransport, isRest, isRestAlone, transportOnlyFirst, messageParts, message, rowsOf, ordinalsFrom, ordinalsOf, Each, Good}
 use Rattle.label.specs.Promised.{with-payload, Freed}
 use Rattle.label.proofs.Laid.{bytes-append}
 
@@ -38,7 +38,7 @@ not-alone [] (a ∷ after) e is = refl
 not-alone (b ∷ []) after e is = refl
 not-alone (b ∷ (b′ ∷ before)) after e is = refl
 
-ended-append : (es es′ : List Envelope) → ended RS (map parts (es ++ es′)) ≡ ended RS (map parts es) ++ ended RS (map parts es′)
+pub ended-append : (es es′ : List Envelope) → ended RS (map parts (es ++ es′)) ≡ ended RS (map parts es) ++ ended RS (map parts es′)
 ended-append [] es′ = refl
 ended-append (e ∷ es) es′ = ap (λ r. parts e ++ (mark RS ∷ r)) (ended-append es es′) ∙ sym (append-assoc (parts e) (mark RS ∷ ended RS (map parts es)) (ended RS (map parts es′)))
 
@@ -91,6 +91,14 @@ module _ (before after : List Envelope) (f : ℕ) (t c n : Bytes) where
         ∷ rowsFrom (length (bytesOf (front before after f t c n)) + k) (back before after f t c n))) same
         ∙ sym (rows-around payload)
 
+    same-ordinals : ordinalsOf (with-payload before after f t c n payload′) ≡ ordinalsOf (with-payload before after f t c n payload)
+    unfolding ordinalsOf parts
+    same-ordinals = from 0 before
+      where
+        from : (o : ℕ) (before : List Envelope) → ordinalsFrom o (with-payload before after f t c n payload′) ≡ ordinalsFrom o (with-payload before after f t c n payload)
+        from o [] = refl
+        from o (e ∷ before) = ap (λ os. map (λ i. o) (itemsOf (parts e)) ++ os) (from (o + 1) before)
+
     same-length : length (message (with-payload before after f t c n payload′)) ≡ length (message (with-payload before after f t c n payload))
     same-length =
         let F = bytesOf (front before after f t c n) in
@@ -124,4 +132,5 @@ module _ (before after : List Envelope) (f : ℕ) (t c n : Bytes) where
       good = subst (λ (x : Bytes). Good edition x (with-payload before after f t c n payload′)) (bytes-around payload′) (still-good edition m good);
       envelopes = length-append before _ ∙ sym (length-append before _);
       rows = same-rows;
+      ordinals = same-ordinals;
     }

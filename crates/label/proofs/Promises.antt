@@ -11,20 +11,21 @@ use Rattle.label.specs.declared.Reason.{Reason}
 use Rattle.label.specs.declared.Reason.the-variants.{BodyBreaksRules, NoRoom}
 use Rattle.label.specs.Bytes.{Bytes}
 use Rattle.label.specs.Formats.{Edition, ruleOf, asFields}
-use Rattle.label.specs.Layout.{allNumbers, itemsOf}
+use Rattle.label.specs.Layout.{Row, itemsOf}
 use Rattle.label.specs.Envelope.{Envelope, counted}
 use Rattle.label.specs.Written.{twoDigits}
-use Rattle.label.specs.Message.{isTransport, messageParts, rowsOf, Good}
+use Rattle.label.specs.Message.{isTransport, messageParts, rowsOf, ordinalsOf, numbersOf, Good}
 use Rattle.label.specs.ReadMessage.{Outcome, read, refused, reading}
 use Rattle.label.specs.Answer.{accepted, refusal, roomOf, readAnswer, overlaid, tableAfter}
 use Rattle.label.specs.Part.{emptyStart, stretchAt, partOf}
 use Rattle.label.specs.Place.{AtEnvelope, AtPiece, PlaceFor}
-use Rattle.label.specs.Promised.{judgedWhole, NoneGood, IsRefused, RefusedForAnyRoom, AcceptedAs, RefusedSo, refusedFrom, Alike, InOrder, Freed, new-message, bytesAt, contentAt}
+use Rattle.label.specs.Promised.{judgedWhole, NoneGood, IsRefused, RefusedForAnyRoom, AcceptedAs, RefusedSo, refusedFrom, Alike, InOrder, EachOf, LiesIn, Freed, new-message, bytesAt, contentAt}
 use Rattle.label.proofs.ReadingSound.{ReadingSo, reading-so}
 use Rattle.label.proofs.ReadingComplete.{reading-pass}
 use Rattle.label.proofs.PlaceOnce.{one-place, none-if-good}
 use Rattle.label.proofs.FaultFormats.{transport-or-11, eleven-of-whole, eleven-not-01}
 use Rattle.label.proofs.PayloadFree.{freed}
+use Rattle.label.proofs.OwnEnvelope.{in-own-envelope, in-no-other}
 use Rattle.label.proofs.Answers.{refused-or-good, same-list, answered-with-room, answered-without, filled-with-room, refused-whatever-room, accepted-as, as-accepted, refused-so, so-refused, answer-inside, alike}
 use Rattle.label.proofs.Untouched.{refusal-leaves-table}
 use Rattle.label.proofs.Parts.{rows-own, own-content, none-behind, none-of-refused, in-order}
@@ -90,11 +91,19 @@ module _ (edition : Edition) (m : Bytes) where
   pub one-list : (es es′ : List Envelope) → Good edition m es → Good edition m es′ → es ≡ es′
   one-list es es′ good good′ = same-list es es′ (sym (reading-pass edition m es good) ∙ reading-pass edition m es′ good′)
 
-  -- Demand 3: the table's first numbers are exactly that list's rows, and the rest stays as it was
-  pub first-rows : (es : List Envelope) → Good edition m es → (table : List ℕ) → length (rowsOf es) ≤ roomOf table → tableAfter edition m table ≡ overlaid (allNumbers (rowsOf es)) table
+  -- Demand 3: the table's first numbers are exactly that list's rows, each with its envelope's ordinal, and the rest stays as it was
+  pub first-rows : (es : List Envelope) → Good edition m es → (table : List ℕ) → length (rowsOf es) ≤ roomOf table → tableAfter edition m table ≡ overlaid (numbersOf es) table
   first-rows es good table enough = filled-with-room edition m es table (reading-pass edition m es good) enough
 
-  -- Demand 3: another payload of equal length in format 09 gives a good message and changes no row, whichever envelope it is in
+  -- 02, No. 9: each row's ordinal names the envelope in which the row's stretch lies, and a row has an ordinal each
+  pub row-in-its-envelope : (es : List Envelope) → Good edition m es → EachOf (LiesIn m es) (rowsOf es) (ordinalsOf es)
+  row-in-its-envelope es good = in-own-envelope edition m es good
+
+  -- it lies in no other
+  pub row-in-no-other : (es : List Envelope) (r : Row) (o o′ : ℕ) → LiesIn m es r o → LiesIn m es r o′ → o ≡ o′
+  row-in-no-other es r o o′ one two = in-no-other m es r o o′ one two
+
+  -- Demand 3: another payload of equal length in format 09 gives a good message and changes no row and no ordinal, whichever envelope it is in
   pub payload-is-free : (before after : List Envelope) (f : ℕ) (t c n payload payload′ : Bytes) (same : length payload′ ≡ length payload)
       → Good edition m (before ++ (counted f t c n payload ∷ after)) → Freed before after f t c n payload payload′ edition m
   payload-is-free before after f t c n payload payload′ same good = freed before after f t c n payload payload′ same edition m good
@@ -103,7 +112,7 @@ module _ (edition : Edition) (m : Bytes) where
   pub payload-changes-nothing : (before after : List Envelope) (f : ℕ) (t c n payload payload′ : Bytes) → Good edition m (before ++ (counted f t c n payload ∷ after))
       → (new : Freed before after f t c n payload payload′ edition m) → Alike edition m (new-message before after f t c n payload payload′ edition m new)
   payload-changes-nothing before after f t c n payload payload′ good new =
-      alike edition m _ _ _ (reading-pass edition m _ good) (reading-pass edition _ _ (new .good)) (new .envelopes) (new .rows)
+      alike edition m _ _ _ (reading-pass edition m _ good) (reading-pass edition _ _ (new .good)) (new .envelopes) (new .rows) (new .ordinals)
 
   -- The answer for every message and every room, both ways
 

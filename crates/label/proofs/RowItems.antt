@@ -14,11 +14,12 @@ use Rattle.label.specs.Limits.{mostRows, rowWidth}
 use Rattle.label.specs.Formats.{Edition}
 use Rattle.label.specs.Layout.{Item, Part, mark, item, Row, bytesOf, itemsOf, rowsFrom, allNumbers}
 use Rattle.label.specs.Envelope.{Envelope}
-use Rattle.label.specs.Message.{messageParts, message, rowsOf, Each, Good}
+use Rattle.label.specs.Message.{messageParts, message, rowsOf, ordinalsOf, numbersOf, Each, Good}
 use Rattle.label.specs.Answer.{roomOf, tableAfter}
-use Rattle.label.specs.Writing.{rowsIn, inside, rowsStand, itemIn, itemsIn, sameItem, sameItems}
+use Rattle.label.specs.Writing.{rowsIn, ordinalsIn, inside, rowsStand, itemIn, itemsIn, sameItem, sameItems}
 use Rattle.label.proofs.Tests.{both, and-both, same-bytes, bytes-same}
-use Rattle.label.proofs.Answers.{numbers-wide, filled-with-room}
+use Rattle.label.proofs.Ordinals.{ordinals-long}
+use Rattle.label.proofs.Answers.{numbers-of-wide, filled-with-room}
 use Rattle.label.proofs.ReadingComplete.{reading-pass}
 
 -- Rows of parts
@@ -52,9 +53,23 @@ items-there ps = items-from (bytesOf ps) 0 ps refl
 
 -- Rows and numbers
 
-pub rows-in-numbers : (rs : List Row) → rowsIn (allNumbers rs) ≡ rs
-rows-in-numbers [] = refl
-rows-in-numbers (r ∷ rs) = ap (λ rest. r ∷ rest) (rows-in-numbers rs)
+pub rows-in-numbers : (rs : List Row) (os : List ℕ) → length os ≡ length rs → rowsIn (allNumbers rs os) ≡ rs
+rows-in-numbers [] os same = refl
+rows-in-numbers (r ∷ rs) [] same = absurd (omega (arith, same))
+rows-in-numbers (r ∷ rs) (o ∷ os) same = ap (λ rest. r ∷ rest) (rows-in-numbers rs os (omega (arith, same)))
+
+ordinals-in-numbers : (rs : List Row) (os : List ℕ) → length os ≡ length rs → ordinalsIn (allNumbers rs os) ≡ os
+ordinals-in-numbers [] [] same = refl
+ordinals-in-numbers [] (o ∷ os) same = absurd (omega (arith, same))
+ordinals-in-numbers (r ∷ rs) [] same = absurd (omega (arith, same))
+ordinals-in-numbers (r ∷ rs) (o ∷ os) same = ap (λ rest. o ∷ rest) (ordinals-in-numbers rs os (omega (arith, same)))
+
+-- those of a list of envelopes
+pub rows-in-numbers-of : (es : List Envelope) → rowsIn (numbersOf es) ≡ rowsOf es
+rows-in-numbers-of es = rows-in-numbers (rowsOf es) (ordinalsOf es) (ordinals-long es)
+
+pub ordinals-in-numbers-of : (es : List Envelope) → ordinalsIn (numbersOf es) ≡ ordinalsOf es
+ordinals-in-numbers-of es = ordinals-in-numbers (rowsOf es) (ordinalsOf es) (ordinals-long es)
 
 -- The same items
 
@@ -98,26 +113,33 @@ module _ (edition : Edition) (m : Bytes) (es : List Envelope) (good : Good editi
       (rows-inside (length m) 0 (messageParts es) (omega (arith, ap length (good .writesOut))))
 
   -- they pass as rows of data to be written
-  pub rows-stand : rowsStand m (allNumbers (rowsOf es)) ≡ true
+  pub rows-stand : rowsStand m (numbersOf es) ≡ true
   unfolding rowsStand
   rows-stand =
-      let ns = allNumbers (rowsOf es) in
-      let wide = numbers-wide (rowsOf es) in
+      let ns = numbersOf es in
+      let wide = numbers-of-wide es in
       let few = good .notTooMany in
       and-both (and-both (eq-eqb (length ns % rowWidth) 0 (omega arith)) (le-leb (length ns / rowWidth) mostRows (omega arith)))
-      (ap (every (inside m)) (rows-in-numbers (rowsOf es)) ∙ all-inside)
+      (ap (every (inside m)) (rows-in-numbers-of es) ∙ all-inside)
 
   -- they name the message's items
-  pub numbers-items : itemsIn m (allNumbers (rowsOf es)) ≡ itemsOf (messageParts es)
+  pub rows-named : map (itemIn m) (rowsOf es) ≡ itemsOf (messageParts es)
   unfolding rowsOf message
-  numbers-items = ap (map (itemIn m)) (rows-in-numbers (rowsOf es)) ∙ ap (λ held. map (itemIn held) (rowsOf es)) (sym (good .writesOut)) ∙ items-there (messageParts es)
+  rows-named = ap (λ held. map (itemIn held) (rowsOf es)) (sym (good .writesOut)) ∙ items-there (messageParts es)
 
-  -- a table that it was read into begins with their numbers, which name those items too
-  pub table-numbers : (table : List ℕ) → length (rowsOf es) ≤ roomOf table → take (rowWidth * length (rowsOf es)) (tableAfter edition m table) ≡ allNumbers (rowsOf es)
+  pub numbers-items : itemsIn m (numbersOf es) ≡ itemsOf (messageParts es)
+  numbers-items = ap (map (itemIn m)) (rows-in-numbers-of es) ∙ rows-named
+
+  -- a table that it was read into begins with their numbers, which name those items and have the list's ordinals too
+  pub table-numbers : (table : List ℕ) → length (rowsOf es) ≤ roomOf table → take (rowWidth * length (rowsOf es)) (tableAfter edition m table) ≡ numbersOf es
   table-numbers table enough =
       ap (take (rowWidth * length (rowsOf es))) (filled-with-room edition m es table (reading-pass edition m es good) enough)
-      ∙ take-at (allNumbers (rowsOf es)) _ (rowWidth * length (rowsOf es)) (numbers-wide (rowsOf es))
+      ∙ take-at (numbersOf es) _ (rowWidth * length (rowsOf es)) (numbers-of-wide es)
 
   pub table-items : (table : List ℕ) → length (rowsOf es) ≤ roomOf table
       → itemsIn m (take (rowWidth * length (rowsOf es)) (tableAfter edition m table)) ≡ itemsOf (messageParts es)
   table-items table enough = ap (itemsIn m) (table-numbers table enough) ∙ numbers-items
+
+  pub table-ordinals : (table : List ℕ) → length (rowsOf es) ≤ roomOf table
+      → ordinalsIn (take (rowWidth * length (rowsOf es)) (tableAfter edition m table)) ≡ ordinalsOf es
+  table-ordinals table enough = ap ordinalsIn (table-numbers table enough) ∙ ordinals-in-numbers-of es

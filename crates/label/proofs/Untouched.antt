@@ -10,8 +10,7 @@ use Rattle.label.specs.declared.Reason.the-variants.{NoRoom}
 use Rattle.label.specs.declared.WriteReason.{WriteReason}
 use Rattle.label.specs.Bytes.{Bytes}
 use Rattle.label.specs.Formats.{Edition}
-use Rattle.label.specs.Layout.{allNumbers}
-use Rattle.label.specs.Message.{rowsOf}
+use Rattle.label.specs.Message.{rowsOf, numbersOf}
 use Rattle.label.specs.ReadMessage.{Outcome, read, refused, reading}
 use Rattle.label.specs.Answer.{accepted, refusal, roomOf, answered, readAnswer, overlaid, filled, tableAfter}
 use Rattle.label.specs.Writing.{Composition, written, declined, writeNumber, writing, composedAnswer, writeAnswer, composedOver, outputAfter}
@@ -23,7 +22,7 @@ kept-or-accepted false table new es rows reason place says = cc
 
 kept : (table : List ℕ) (outcome : Outcome) (reason : Reason) (place : ℕ) → answered (roomOf table) outcome ≡ refusal reason place → filled table outcome ≡ table
 kept table (read es) reason place says =
-    kept-or-accepted (ltb (roomOf table) (length (rowsOf es))) table (overlaid (allNumbers (rowsOf es)) table) (length es) (length (rowsOf es)) reason place says
+    kept-or-accepted (ltb (roomOf table) (length (rowsOf es))) table (overlaid (numbersOf es) table) (length es) (length (rowsOf es)) reason place says
 kept table (refused r p) reason place says = refl
 
 pub refusal-leaves-table : (edition : Edition) (m : Bytes) (table : List ℕ) (reason : Reason) (place : ℕ) → readAnswer edition m (roomOf table) ≡ refusal reason place → tableAfter edition m table ≡ table

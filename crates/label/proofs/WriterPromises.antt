@@ -1,5 +1,5 @@
 -- The promises about writing, each with its name and sentence; the work is done where the proof says. They hold for every edition, data, row numbers and
--- room. What a reader must believe for them is Good (specs/Message), what rows name (itemsIn, rowsStand: specs/Writing), tableAfter (specs/Answer), and
+-- room. What a reader must believe for them is Good (specs/Message), what rows name and have (itemsIn, ordinalsIn, rowsStand: specs/Writing), tableAfter (specs/Answer), and
 -- writing, writeAnswer and outputAfter (specs/Writing). That writing renders and reads back is how it is defined, and need not be believed: the promises
 -- say which message it comes to, for all inputs.
 use Prim.Native.Nat.{ℕ, _*_, _≤_, _<_}
@@ -13,13 +13,13 @@ use Rattle.label.specs.declared.WriteReason.the-variants.{BadRows, NoSuc
 use Rattle.label.specs.Bytes.{Bytes}
 use Rattle.label.specs.Limits.{rowWidth}
 use Rattle.label.specs.Formats.{Edition}
-use Rattle.label.specs.Layout.{itemsOf, allNumbers}
+use Rattle.label.specs.Layout.{itemsOf}
 use Rattle.label.specs.Envelope.{Envelope}
-use Rattle.label.specs.Message.{messageParts, rowsOf, Good}
+use Rattle.label.specs.Message.{messageParts, rowsOf, ordinalsOf, numbersOf, Good}
 use Rattle.label.specs.Answer.{roomOf, overlaid, tableAfter}
-use Rattle.label.specs.Writing.{rowsStand, itemsIn, written, declined, writing, writeNumber, writeAnswer, outputAfter}
+use Rattle.label.specs.Writing.{ordinalsIn, rowsStand, itemsIn, written, declined, writing, writeNumber, writeAnswer, outputAfter}
 use Rattle.label.specs.Promised.{MessageWith, LongerMessageWith, FittingMessageWith, NoMessageWith, ReadBack}
-use Rattle.label.proofs.RowItems.{rows-stand, numbers-items, table-numbers}
+use Rattle.label.proofs.RowItems.{ordinals-in-numbers-of, rows-stand, numbers-items, table-numbers}
 use Rattle.label.proofs.Composing.{one-rendered, bad-rows, writes, lacks-room, none-written, tells, reads-back, answer-numbers, output-bytes, declined-so, written-so, so-written, read-from-output}
 use Rattle.label.proofs.Untouched.{refusal-leaves-output}
 
@@ -29,12 +29,12 @@ module _ (edition : Edition) where
   one-message m m′ es es′ good good′ same = one-rendered edition m m′ es es′ good good′ same
 
   module _ (m : Bytes) (es : List Envelope) (good : Good edition m es) where
-    with-its-items : MessageWith edition (itemsIn m (allNumbers (rowsOf es))) m
-    with-its-items = record { envelopes = es; good = good; items = sym (numbers-items edition m es good) }
+    with-its-items : MessageWith edition (itemsIn m (numbersOf es)) (ordinalsIn (numbersOf es)) m
+    with-its-items = record { envelopes = es; good = good; items = sym (numbers-items edition m es good); ordinals = sym (ordinals-in-numbers-of es) }
 
     -- Demand 2: a good message and its own rows are written back as exactly that message
-    pub written-back : (room : ℕ) → length m ≤ room → writing edition m (allNumbers (rowsOf es)) room ≡ written m
-    written-back room enough = writes edition m (allNumbers (rowsOf es)) m (rows-stand edition m es good) with-its-items room enough
+    pub written-back : (room : ℕ) → length m ≤ room → writing edition m (numbersOf es) room ≡ written m
+    written-back room enough = writes edition m (numbersOf es) m (rows-stand edition m es good) with-its-items room enough
 
     -- and so it is from any table that it was read into
     pub table-written-back : (table : List ℕ) → length (rowsOf es) ≤ roomOf table → (room : ℕ) → length m ≤ room
@@ -42,19 +42,19 @@ module _ (edition : Edition) where
     table-written-back table rows room enough = ap (λ ns. writing edition m ns room) (table-numbers edition m es good table rows) ∙ written-back room enough
 
     -- the answer is its length
-    pub written-back-counted : (room : ℕ) → length m ≤ room → writeAnswer edition m (allNumbers (rowsOf es)) room ≡ 0 ∷ length m ∷ []
-    written-back-counted room enough = answer-numbers edition m (allNumbers (rowsOf es)) room (written m) (written-back room enough)
+    pub written-back-counted : (room : ℕ) → length m ≤ room → writeAnswer edition m (numbersOf es) room ≡ 0 ∷ length m ∷ []
+    written-back-counted room enough = answer-numbers edition m (numbersOf es) room (written m) (written-back room enough)
 
     -- the output begins with its bytes, and what lies behind them stays as it was
-    pub written-back-there : (output : Bytes) → length m ≤ length output → outputAfter edition m (allNumbers (rowsOf es)) output ≡ overlaid m output
-    written-back-there output enough = output-bytes edition m (allNumbers (rowsOf es)) output (written m) (written-back (length output) enough)
+    pub written-back-there : (output : Bytes) → length m ≤ length output → outputAfter edition m (numbersOf es) output ≡ overlaid m output
+    written-back-there output enough = output-bytes edition m (numbersOf es) output (written m) (written-back (length output) enough)
 
     -- and it is refused only for lack of room in the output
-    pub written-back-lacks-room : (room : ℕ) → room < length m → writing edition m (allNumbers (rowsOf es)) room ≡ declined NoOutputRoom
-    written-back-lacks-room room short = lacks-room edition m (allNumbers (rowsOf es)) m (rows-stand edition m es good) with-its-items room short
+    pub written-back-lacks-room : (room : ℕ) → room < length m → writing edition m (numbersOf es) room ≡ declined NoOutputRoom
+    written-back-lacks-room room short = lacks-room edition m (numbersOf es) m (rows-stand edition m es good) with-its-items room short
 
   module _ (held : Bytes) (ns : List ℕ) where
-    -- Demand 2: what is written is good, and reads back as rows with the same kinds, formats and contents in the same order, as many as were given
+    -- Demand 2: what is written is good, and reads back as rows with the same kinds, formats, contents and ordinals in the same order, as many as were given
     pub read-back : (room : ℕ) (w : Bytes) → writing edition held ns room ≡ written w → ReadBack edition held ns w
     read-back room w says = reads-back edition held ns w (tells edition held ns room (written w) says .2)
 
@@ -74,46 +74,46 @@ module _ (edition : Edition) where
     pub if-bad-rows : rowsStand held ns ≡ false → (room : ℕ) → writing edition held ns room ≡ declined BadRows
     if-bad-rows fall room = bad-rows edition held ns room fall
 
-    -- Demand 2: 21 exactly where the rows stand and there is no good message with these kinds, formats and contents in this order
+    -- Demand 2: 21 exactly where the rows stand and there is no good message with these kinds, formats, contents and ordinals in this order
     pub only-if-none : (room : ℕ) → writing edition held ns room ≡ declined NoSuchMessage
-        → (rowsStand held ns ≡ true) × NoMessageWith edition (itemsIn held ns)
+        → (rowsStand held ns ≡ true) × NoMessageWith edition (itemsIn held ns) (ordinalsIn ns)
     only-if-none room says = tells edition held ns room (declined NoSuchMessage) says
 
-    pub if-none : rowsStand held ns ≡ true → NoMessageWith edition (itemsIn held ns)
+    pub if-none : rowsStand held ns ≡ true → NoMessageWith edition (itemsIn held ns) (ordinalsIn ns)
         → (room : ℕ) → writing edition held ns room ≡ declined NoSuchMessage
     if-none stand none-good room = none-written edition held ns stand none-good room
 
-    -- 22 exactly where the rows stand and the good message with these items is longer than the room
-    pub only-if-longer : (room : ℕ) → writing edition held ns room ≡ declined NoOutputRoom → (rowsStand held ns ≡ true) × LongerMessageWith edition (itemsIn held ns) room
+    -- 22 exactly where the rows stand and the good message with these items and ordinals is longer than the room
+    pub only-if-longer : (room : ℕ) → writing edition held ns room ≡ declined NoOutputRoom → (rowsStand held ns ≡ true) × LongerMessageWith edition (itemsIn held ns) (ordinalsIn ns) room
     only-if-longer room says = tells edition held ns room (declined NoOutputRoom) says
 
-    pub if-longer : (m : Bytes) (es : List Envelope) → rowsStand held ns ≡ true → Good edition m es → itemsOf (messageParts es) ≡ itemsIn held ns
+    pub if-longer : (m : Bytes) (es : List Envelope) → rowsStand held ns ≡ true → Good edition m es → itemsOf (messageParts es) ≡ itemsIn held ns → ordinalsOf es ≡ ordinalsIn ns
         → (room : ℕ) → room < length m → writing edition held ns room ≡ declined NoOutputRoom
-    if-longer m es stand good items room short = lacks-room edition held ns m stand (record { envelopes = es; good = good; items = items }) room short
+    if-longer m es stand good items ordinals room short = lacks-room edition held ns m stand (record { envelopes = es; good = good; items = items; ordinals = ordinals }) room short
 
-    -- and it is written exactly where the rows stand and it is not longer; that it is good, and with these items, is read-back
+    -- and it is written exactly where the rows stand and it is not longer; that it is good, and with these items and ordinals, is read-back
     pub only-if-fits : (room : ℕ) (w : Bytes) → writing edition held ns room ≡ written w → (rowsStand held ns ≡ true) × (length w ≤ room)
     only-if-fits room w says = let so = tells edition held ns room (written w) says in (so .0, so .1)
 
-    pub if-fits : (m : Bytes) (es : List Envelope) → rowsStand held ns ≡ true → Good edition m es → itemsOf (messageParts es) ≡ itemsIn held ns
+    pub if-fits : (m : Bytes) (es : List Envelope) → rowsStand held ns ≡ true → Good edition m es → itemsOf (messageParts es) ≡ itemsIn held ns → ordinalsOf es ≡ ordinalsIn ns
         → (room : ℕ) → length m ≤ room → writing edition held ns room ≡ written m
-    if-fits m es stand good items room enough = writes edition held ns m stand (record { envelopes = es; good = good; items = items }) room enough
+    if-fits m es stand good items ordinals room enough = writes edition held ns m stand (record { envelopes = es; good = good; items = items; ordinals = ordinals }) room enough
 
     -- The same of the numbers that are answered, both ways
 
     pub answers-20 : (room : ℕ) → (writeAnswer edition held ns room ≡ writeNumber BadRows ∷ []) ↔ (rowsStand held ns ≡ false)
     answers-20 room = (declined-so edition held ns room BadRows, λ fall. answer-numbers edition held ns room (declined BadRows) (if-bad-rows fall room))
 
-    pub answers-21 : (room : ℕ) → (writeAnswer edition held ns room ≡ writeNumber NoSuchMessage ∷ []) ↔ ((rowsStand held ns ≡ true) × NoMessageWith edition (itemsIn held ns))
+    pub answers-21 : (room : ℕ) → (writeAnswer edition held ns room ≡ writeNumber NoSuchMessage ∷ []) ↔ ((rowsStand held ns ≡ true) × NoMessageWith edition (itemsIn held ns) (ordinalsIn ns))
     answers-21 room = (declined-so edition held ns room NoSuchMessage, λ so. answer-numbers edition held ns room (declined NoSuchMessage) (if-none (so .0) (so .1) room))
 
-    pub answers-22 : (room : ℕ) → (writeAnswer edition held ns room ≡ writeNumber NoOutputRoom ∷ []) ↔ ((rowsStand held ns ≡ true) × LongerMessageWith edition (itemsIn held ns) room)
+    pub answers-22 : (room : ℕ) → (writeAnswer edition held ns room ≡ writeNumber NoOutputRoom ∷ []) ↔ ((rowsStand held ns ≡ true) × LongerMessageWith edition (itemsIn held ns) (ordinalsIn ns) room)
     answers-22 room = (
       declined-so edition held ns room NoOutputRoom,
       λ so. answer-numbers edition held ns room (declined NoOutputRoom) (lacks-room edition held ns (so .1 .message) (so .0) (so .1 .with) room (so .1 .longer)),
     )
 
-    pub answers-written : (room count : ℕ) → (writeAnswer edition held ns room ≡ 0 ∷ count ∷ []) ↔ ((rowsStand held ns ≡ true) × FittingMessageWith edition (itemsIn held ns) room count)
+    pub answers-written : (room count : ℕ) → (writeAnswer edition held ns room ≡ 0 ∷ count ∷ []) ↔ ((rowsStand held ns ≡ true) × FittingMessageWith edition (itemsIn held ns) (ordinalsIn ns) room count)
     answers-written room count = (written-so edition held ns room count, so-written edition held ns room count)
 
     -- Demand 2: so many of the output's first bytes as are answered read back as the rows that were given

@@ -1,7 +1,7 @@
 -- What is answered, in the paper's numbers, and what lent memory holds afterwards (01, Numbers for the receiving desk).
 use Prim.Native.Nat.{ℕ, _/_}
 use mathlib.Core.Bool.{cond}
-use mathlib.Core.List.{List, [], _∷_, _++_, map}
+use mathlib.Core.List.{List, [], _∷_, _++_}
 use lib.ListN.{length, drop}
 use lib.Dec.{ltb}
 use Rattle.label.specs.declared.Reason.{Reason}
@@ -12,7 +12,7 @@ use Rattle.label.specs.Bytes.{Bytes}
 use Rattle.label.specs.Limits.{mostRows, rowWidth}
 use Rattle.label.specs.Formats.{Edition}
 use Rattle.label.specs.Layout.{Row, numbers, allNumbers}
-use Rattle.label.specs.Message.{rowsOf}
+use Rattle.label.specs.Message.{rowsOf, ordinalsOf, numbersOf}
 use Rattle.label.specs.ReadMessage.{Outcome, read, refused, reading}
 
 -- the papers' number of a reason (01, Numbers for the receiving desk; 02, No. 1)
@@ -65,7 +65,7 @@ overlaid first old = first ++ drop (length first) old
 
 -- what the table holds afterwards: on acceptance the rows and then what it held, else what it held
 abbrev pub filled : List ℕ → Outcome → List ℕ
-filled table (read es) = cond (ltb (roomOf table) (length (rowsOf es))) table (overlaid (allNumbers (rowsOf es)) table)
+filled table (read es) = cond (ltb (roomOf table) (length (rowsOf es))) table (overlaid (numbersOf es) table)
 filled table (refused reason place) = table
 
 unfoldable pub tableAfter : Edition → Bytes → List ℕ → List ℕ
@@ -76,6 +76,21 @@ abbrev pub rowsRead : Outcome → List Row
 rowsRead (read es) = rowsOf es
 rowsRead (refused reason place) = []
 
+-- and the ordinal of each one's envelope (02, No. 9)
+abbrev pub ordinalsRead : Outcome → List ℕ
+ordinalsRead (read es) = ordinalsOf es
+ordinalsRead (refused reason place) = []
+
+-- the numbers of both, one behind the other
+abbrev pub numbersRead : Outcome → List ℕ
+numbersRead o = allNumbers (rowsRead o) (ordinalsRead o)
+
+-- a line for each row
+abbrev pub eachNumbers : List Row → List ℕ → List (List ℕ)
+eachNumbers [] os = []
+eachNumbers (r ∷ rs) [] = []
+eachNumbers (r ∷ rs) (o ∷ os) = numbers r o ∷ eachNumbers rs os
+
 -- the lines that the printing program writes (01, Cartons to try): the answer with room for the most rows, then the rows
 unfoldable pub printed : Edition → Bytes → List (List ℕ)
-printed edition m = readAnswer edition m mostRows ∷ map numbers (rowsRead (reading edition m))
+printed edition m = readAnswer edition m mostRows ∷ eachNumbers (rowsRead (reading edition m)) (ordinalsRead (reading edition m))

@@ -2,7 +2,7 @@
 -- The bytes and the rows are both read off one list of parts (01, Rows).
 use Prim.Native.Nat.{ℕ, _+_}
 use mathlib.Core.List.{List, [], _∷_, _++_, map}
-use lib.ListN.{length}
+use lib.ListN.{length, getD}
 use Rattle.label.specs.Bytes.{Bytes}
 
 -- what a row tells besides its place
@@ -15,7 +15,7 @@ pub data Part : Type 0 where
   mark : ℕ → Part
   item : Item → Part
 
--- a row: four numbers, start and length naming a stretch of the message
+-- a row less its envelope's ordinal: start and length name a stretch of the message
 pub record Row : Type 0 where
   pub kind : ℕ
   pub format : ℕ
@@ -44,13 +44,19 @@ rowsFrom at [] = []
 rowsFrom at (mark b ∷ ps) = rowsFrom (at + 1) ps
 rowsFrom at (item i ∷ ps) = rowAt at i ∷ rowsFrom (at + length (i .content)) ps
 
--- the numbers of a row, and of rows one behind the other
-abbrev pub numbers : Row → List ℕ
-numbers r = r .kind ∷ r .format ∷ r .start ∷ r .length ∷ []
+-- the five numbers of a row, its envelope's ordinal last (02, No. 9)
+abbrev pub numbers : Row → ℕ → List ℕ
+numbers r ordinal = r .kind ∷ r .format ∷ r .start ∷ r .length ∷ ordinal ∷ []
 
-abbrev pub allNumbers : List Row → List ℕ
-allNumbers [] = []
-allNumbers (r ∷ rs) = numbers r ++ allNumbers rs
+-- and of rows with their ordinals, one behind the other
+abbrev pub allNumbers : List Row → List ℕ → List ℕ
+allNumbers [] os = []
+allNumbers (r ∷ rs) [] = []
+allNumbers (r ∷ rs) (o ∷ os) = numbers r o ++ allNumbers rs os
+
+-- the row whose first four numbers stand from an index on
+abbrev pub rowFrom : List ℕ → ℕ → Row
+rowFrom ns at = record { kind = getD ns at 0; format = getD ns (at + 1) 0; start = getD ns (at + 2) 0; length = getD ns (at + 3) 0 }
 
 -- marks
 abbrev pub marks : Bytes → List Part

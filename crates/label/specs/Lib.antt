@@ -19,4 +19,5 @@ pub mod Lacking
 pub mod Place
 pub mod Rendered
 pub mod Writing
+pub mod Counting
 pub mod Promised

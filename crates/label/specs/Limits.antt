@@ -16,9 +16,9 @@ longest = 4096
 abbrev pub mostRows : ℕ
 mostRows = 1024
 
--- how many numbers a row is (01, Rows)
+-- how many numbers a row is (01, Rows; 02, No. 9)
 abbrev pub rowWidth : ℕ
-rowWidth = 4
+rowWidth = 5
 
 -- a least and a greatest length
 abbrev pub _to_ : ℕ → ℕ → Limit

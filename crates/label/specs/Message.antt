@@ -1,5 +1,5 @@
--- What a message is, what its rows are, and when it is good (01, Envelope rules and Rows).
-use Prim.Native.Nat.{_≤_}
+-- What a message is, what its rows and their ordinals are, and when it is good (01, Envelope rules and Rows; 02, No. 9).
+use Prim.Native.Nat.{ℕ, _+_, _≤_}
 use mathlib.Core.Path.{_≡_}
 use mathlib.Core.Bool.{Bool, true, false, not, _||_, cond}
 use mathlib.Core.List.{List, [], _∷_, _++_, map}
@@ -7,7 +7,7 @@ use lib.ListN.{length}
 use Rattle.label.specs.Bytes.{Bytes, ascii, EOT, RS, every, isEmpty}
 use Rattle.label.specs.Limits.{longest, mostRows}
 use Rattle.label.specs.Formats.{Edition}
-use Rattle.label.specs.Layout.{Part, mark, marks, Row, bytesOf, rowsFrom, separated, ended}
+use Rattle.label.specs.Layout.{Part, mark, marks, Row, bytesOf, itemsOf, rowsFrom, allNumbers, separated, ended}
 use Rattle.label.specs.Envelope.{Envelope, fields, wholeRest, segments, elements, text, counted, Within}
 use Rattle.label.specs.Written.{parts}
 
@@ -58,6 +58,20 @@ message es = bytesOf (messageParts es)
 -- the rows, in message order, each where its content stands in the message
 unfoldable pub rowsOf : List Envelope → List Row
 rowsOf es = rowsFrom 0 (messageParts es)
+
+-- the ordinal of each row's envelope: of envelopes one behind the other, the first of which has ordinal n, each row of an envelope has the envelope's
+-- (02, No. 9)
+abbrev pub ordinalsFrom : ℕ → List Envelope → List ℕ
+ordinalsFrom n [] = []
+ordinalsFrom n (e ∷ es) = map (λ i. n) (itemsOf (parts e)) ++ ordinalsFrom (n + 1) es
+
+-- they are counted from 0
+unfoldable pub ordinalsOf : List Envelope → List ℕ
+ordinalsOf es = ordinalsFrom 0 es
+
+-- the numbers of the rows, one behind the other
+abbrev pub numbersOf : List Envelope → List ℕ
+numbersOf es = allNumbers (rowsOf es) (ordinalsOf es)
 
 -- a fact of each of a list
 abbrev pub Each : {A : Type 0} → (A → Type 0) → List A → Type 0

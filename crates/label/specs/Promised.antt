@@ -14,11 +14,11 @@ use Rattle.label.specs.Formats.{Edition, Rule, asFields, asRest, asSegme
 use Rattle.label.specs.Layout.{Item, Row, bytesOf, itemsOf}
 use Rattle.label.specs.Envelope.{Envelope, counted}
 use Rattle.label.specs.Written.{parts}
-use Rattle.label.specs.Message.{messageParts, rowsOf, Good}
+use Rattle.label.specs.Message.{messageParts, rowsOf, ordinalsOf, Good}
 use Rattle.label.specs.ReadMessage.{refused, reading}
 use Rattle.label.specs.Answer.{refusal, roomOf, readAnswer, tableAfter}
-use Rattle.label.specs.Place.{PlaceFor}
-use Rattle.label.specs.Writing.{rowsIn, itemsIn}
+use Rattle.label.specs.Place.{inFront, PlaceFor}
+use Rattle.label.specs.Writing.{rowsIn, ordinalsIn, itemsIn}
 
 -- Demand 3, of every message
 
@@ -83,6 +83,33 @@ abbrev pub InOrder : ℕ → List Row → Type 0
 InOrder at [] = Unit {0}
 InOrder at (r ∷ rs) = (at ≤ r .start) × InOrder (r .start + r .length) rs
 
+-- 02, No. 9: which envelope a row is in
+
+-- a fact of each row and its ordinal, of which there are as many
+abbrev pub EachOf : (Row → ℕ → Type 0) → List Row → List ℕ → Type 0
+EachOf fact [] [] = Unit {0}
+EachOf fact [] (o ∷ os) = ⊥
+EachOf fact (r ∷ rs) [] = ⊥
+EachOf fact (r ∷ rs) (o ∷ os) = fact r o × EachOf fact rs os
+
+module _ (m : Bytes) (es : List Envelope) where
+  -- the envelope of the list with an ordinal, counted from 0: its bytes stand in the message from an offset on, and in front of it stand the header and
+  -- those with smaller ordinals
+  pub record EnvelopeAt (o at : ℕ) : Type 0 where
+    pub envelope : Envelope
+    pub after : List Envelope
+    pub there : drop o es ≡ envelope ∷ after
+    pub behind : Bytes
+    pub bytes : m ≡ inFront (take o es) ++ (bytesOf (parts envelope) ++ behind)
+    pub offset : at ≡ length (inFront (take o es))
+
+  -- a row's stretch lies in the envelope with an ordinal
+  pub record LiesIn (r : Row) (o : ℕ) : Type 0 where
+    pub at : ℕ
+    pub stands : EnvelopeAt o at
+    pub from : at ≤ r .start
+    pub to : r .start + r .length ≤ at + length (bytesOf (parts (stands .envelope)))
+
 -- Demand 3, of another payload in format 09
 
 module _ (before after : List Envelope) (f : ℕ) (t c n : Bytes) where
@@ -91,7 +118,7 @@ module _ (before after : List Envelope) (f : ℕ) (t c n : Bytes) where
   with-payload payload = before ++ (counted f t c n payload ∷ after)
 
   module _ (payload payload′ : Bytes) (edition : Edition) (m : Bytes) where
-    -- the message with the payload's bytes replaced is good, and has the same rows
+    -- the message with the payload's bytes replaced is good, and has the same rows with the same ordinals
     pub record Freed : Type 0 where
       pub around : Bytes
       pub behind : Bytes
@@ -99,6 +126,7 @@ module _ (before after : List Envelope) (f : ℕ) (t c n : Bytes) where
       pub good : Good edition (around ++ (payload′ ++ behind)) (with-payload payload′)
       pub envelopes : length (with-payload payload′) ≡ length (with-payload payload)
       pub rows : rowsOf (with-payload payload′) ≡ rowsOf (with-payload payload)
+      pub ordinals : ordinalsOf (with-payload payload′) ≡ ordinalsOf (with-payload payload)
 
     abbrev pub new-message : Freed → Bytes
     new-message new = new .around ++ (payload′ ++ new .behind)
@@ -117,12 +145,13 @@ contentAt (i ∷ is) (suc n) = contentAt is n
 
 -- Demand 2, of the writer
 
-module _ (edition : Edition) (is : List Item) where
-  -- a good message with these items
+module _ (edition : Edition) (is : List Item) (os : List ℕ) where
+  -- a good message with these items, whose envelopes have these ordinals
   pub record MessageWith (m : Bytes) : Type 0 where
     pub envelopes : List Envelope
     pub good : Good edition m envelopes
     pub items : itemsOf (messageParts envelopes) ≡ is
+    pub ordinals : ordinalsOf envelopes ≡ os
 
   -- one that is longer than the room
   pub record LongerMessageWith (room : ℕ) : Type 0 where
@@ -139,13 +168,17 @@ module _ (edition : Edition) (is : List Item) where
 
   -- there is none
   abbrev pub NoMessageWith : Type 0
-  NoMessageWith = (m : Bytes) (es : List Envelope) → Good edition m es → itemsOf (messageParts es) ≡ is → ⊥
+  NoMessageWith = (m : Bytes) (es : List Envelope) → Good edition m es → itemsOf (messageParts es) ≡ is → ordinalsOf es ≡ os → ⊥
 
--- bytes are good with a list whose rows are as many as those given, and which, in any table with room, name the same items in the same order
+-- bytes are good with a list whose rows are as many as those given, and which, in any table with room, name the same items in the same order and have
+-- the same ordinals
 pub record ReadBack (edition : Edition) (held : Bytes) (ns : List ℕ) (w : Bytes) : Type 0 where
   pub envelopes : List Envelope
   pub good : Good edition w envelopes
   pub items : itemsOf (messageParts envelopes) ≡ itemsIn held ns
+  pub ordinals : ordinalsOf envelopes ≡ ordinalsIn ns
   pub counted : length (rowsOf envelopes) ≡ length (rowsIn ns)
   pub table-same : (table : List ℕ) → length (rowsOf envelopes) ≤ roomOf table
       → itemsIn w (take (rowWidth * length (rowsOf envelopes)) (tableAfter edition w table)) ≡ itemsIn held ns
+  pub table-ordinals : (table : List ℕ) → length (rowsOf envelopes) ≤ roomOf table
+      → ordinalsIn (take (rowWidth * length (rowsOf envelopes)) (tableAfter edition w table)) ≡ ordinalsIn ns

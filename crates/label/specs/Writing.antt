@@ -1,4 +1,4 @@
--- What the writer answers, and what the output holds afterwards (01, Numbers for the receiving desk, paragraph Writer).
+-- What the writer answers, and what the output holds afterwards (01, Numbers for the receiving desk, paragraph Writer; 02, No. 9).
 use Prim.Native.Nat.{ℕ, _+_, _/_, _%_}
 use mathlib.Core.Bool.{Bool, true, false, _&&_, cond}
 use mathlib.Core.Option.{Option, none, some}
@@ -13,7 +13,7 @@ use Rattle.label.specs.Bytes.{Bytes, every, sameBytes}
 use Rattle.label.specs.Limits.{mostRows, rowWidth}
 use Rattle.label.specs.Formats.{Edition}
 use Rattle.label.specs.Layout.{Item, Row, itemsOf}
-use Rattle.label.specs.Message.{messageParts}
+use Rattle.label.specs.Message.{messageParts, ordinalsOf}
 use Rattle.label.specs.ReadMessage.{Outcome, read, refused, reading}
 use Rattle.label.specs.Answer.{overlaid}
 use Rattle.label.specs.Rendered.{rendered}
@@ -24,7 +24,17 @@ rowsIn [] = []
 rowsIn (k ∷ []) = []
 rowsIn (k ∷ (f ∷ [])) = []
 rowsIn (k ∷ (f ∷ (s ∷ []))) = []
-rowsIn (k ∷ (f ∷ (s ∷ (l ∷ ns)))) = record { kind = k; format = f; start = s; length = l } ∷ rowsIn ns
+rowsIn (k ∷ (f ∷ (s ∷ (l ∷ [])))) = []
+rowsIn (k ∷ (f ∷ (s ∷ (l ∷ (o ∷ ns))))) = record { kind = k; format = f; start = s; length = l } ∷ rowsIn ns
+
+-- and the ordinal in each (02, No. 9)
+abbrev pub ordinalsIn : List ℕ → List ℕ
+ordinalsIn [] = []
+ordinalsIn (k ∷ []) = []
+ordinalsIn (k ∷ (f ∷ [])) = []
+ordinalsIn (k ∷ (f ∷ (s ∷ []))) = []
+ordinalsIn (k ∷ (f ∷ (s ∷ (l ∷ [])))) = []
+ordinalsIn (k ∷ (f ∷ (s ∷ (l ∷ (o ∷ ns))))) = o ∷ ordinalsIn ns
 
 -- a row's stretch doesn't leave the data
 unfoldable pub inside : Bytes → Row → Bool
@@ -51,13 +61,17 @@ sameItems [] (j ∷ js) = false
 sameItems (i ∷ is) [] = false
 sameItems (i ∷ is) (j ∷ js) = sameItem i j && sameItems is js
 
--- the good message with these items, or that there is none: what they render to, if that is read and has just these items
-abbrev pub ifSame : List Item → Bytes → Outcome → Option Bytes
-ifSame is m (read es) = cond (sameItems (itemsOf (messageParts es)) is) (some m) none
-ifSame is m (refused reason place) = none
+-- the same ordinals in the same order; numbers are compared as bytes are
+abbrev pub sameOrdinals : List ℕ → List ℕ → Bool
+sameOrdinals os os′ = sameBytes os os′
 
-unfoldable pub composed : Edition → List Item → Option Bytes
-composed edition is = ifSame is (rendered edition is) (reading edition (rendered edition is))
+-- the good message with these items and these ordinals, or that there is none: what the items render to, if that is read and has just these
+abbrev pub ifSame : List Item → List ℕ → Bytes → Outcome → Option Bytes
+ifSame is os m (read es) = cond (sameItems (itemsOf (messageParts es)) is && sameOrdinals (ordinalsOf es) os) (some m) none
+ifSame is os m (refused reason place) = none
+
+unfoldable pub composed : Edition → List Item → List ℕ → Option Bytes
+composed edition is os = ifSame is os (rendered edition is) (reading edition (rendered edition is))
 
 -- the message that is written, or why none is
 pub data Composition : Type 0 where
@@ -70,7 +84,7 @@ fitting room (some m) = cond (ltb room (length m)) (declined NoOutputRoom) (writ
 
 -- 20, then 21, then 22
 unfoldable pub writing : Edition → Bytes → List ℕ → ℕ → Composition
-writing edition held ns room = cond (rowsStand held ns) (fitting room (composed edition (itemsIn held ns))) (declined BadRows)
+writing edition held ns room = cond (rowsStand held ns) (fitting room (composed edition (itemsIn held ns) (ordinalsIn ns))) (declined BadRows)
 
 -- the paper's number of a reason, and the number and values of an answer
 abbrev pub writeNumber : WriteReason → ℕ

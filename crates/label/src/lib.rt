@@ -2,12 +2,12 @@
 // What a message is, how it is read and what is answered stands in specs/.
 
 // The most bytes and the most rows in a message, how many numbers a row is, and the length of a table with room for the most rows
-// (01, Rows).
+// (01, Rows; 02, No. 9).
 pub const LONGEST: usize = 4096;
 
 pub const MOST_ROWS: usize = 1024;
 
-pub const ROW: usize = 4;
+pub const ROW: usize = 5;
 
 pub const TABLE: usize = ROW * MOST_ROWS;
 

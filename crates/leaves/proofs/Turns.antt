@@ -17,6 +17,17 @@ use Rattle.leaves.specs.Seek.{seek, tallyOf}
 pub drop-step : (s : Bytes) (i : ℕ) → i < length s → drop i s ≡ getD s i 0 ∷ drop (i + 1) s
 drop-step s i inside = drop-cons s i 0 inside ∙ ap (λ n. getD s i 0 ∷ drop n s) (sym (add-one i))
 
+-- four numbers from an index on
+pub four-there : (ns : List ℕ) (at : ℕ) → at + 4 ≤ length ns → drop at ns ≡ getD ns at 0 ∷ getD ns (at + 1) 0 ∷ getD ns (at + 2) 0 ∷ getD ns (at + 3) 0 ∷ drop (at + 4) ns
+four-there ns at fits =
+    let two : at + 1 + 1 ≡ at + 2 = omega arith in
+    let three : at + 2 + 1 ≡ at + 3 = omega arith in
+    let four : at + 3 + 1 ≡ at + 4 = omega arith in
+    drop-step ns at (omega arith)
+    ∙ ap (λ r. getD ns at 0 ∷ r) (drop-step ns (at + 1) (omega arith) ∙ ap (λ n. getD ns (at + 1) 0 ∷ drop n ns) two)
+    ∙ ap (λ r. getD ns at 0 ∷ getD ns (at + 1) 0 ∷ r) (drop-step ns (at + 2) (omega arith) ∙ ap (λ n. getD ns (at + 2) 0 ∷ drop n ns) three)
+    ∙ ap (λ r. getD ns at 0 ∷ getD ns (at + 1) 0 ∷ getD ns (at + 2) 0 ∷ r) (drop-step ns (at + 3) (omega arith) ∙ ap (λ n. getD ns (at + 3) 0 ∷ drop n ns) four)
+
 pub drop-past : {A : Type 0} (s : List A) (i : ℕ) → length s ≤ i → drop i s ≡ []
 drop-past [] zero past = refl
 drop-past [] (suc i) past = refl

@@ -8,12 +8,14 @@ use label::Reason;
 use label::Refusal;
 use label::Stretch;
 ghost use mathlib.Core.Path.{_≡_};
-ghost use mathlib.Core.List.{[], _∷_, _++_};
-ghost use Prim.Native.Nat.{_+_, _*_, _≤_};
-ghost use lib.ListN.{length, getD, take, drop};
-ghost use Rattle.label.specs.Limits.{rowWidth};
-ghost use Rattle.label.specs.Answer.{answerOf, roomOf, overlaid};
-ghost use Rattle.noted.specs.Noted.{answerFrom, tableFrom, stretchFrom};
+ghost use mathlib.Core.List.{_++_, map};
+ghost use Prim.Native.Nat.{_+_, _≤_};
+ghost use lib.ListN.{take, drop};
+ghost use Rattle.label.specs.Limits.{mostRows, rowWidth};
+ghost use Rattle.label.specs.Layout.{Row, rowFrom, numbers, allNumbers};
+ghost use Rattle.label.specs.Answer.{answerOf, refusal, roomOf, overlaid};
+ghost use Rattle.label.specs.Counting.{kindsOf, raised, byCounting};
+ghost use Rattle.noted.specs.Noted.{rowsNoted, ordinalsNoted, answerFrom, tableFrom, Copies, OneCopied, stretchFrom};
 
 // How many numbers a row is in the notes, and the length of notes with room for the most rows.
 pub const NOTE: usize = 4;
@@ -27,43 +29,91 @@ fn widened(x: u16) -> u32
     x as u32
 }
 
-// Copies a row's numbers from the notes into a table, at the same index.
-fn copy_row(notes: &[u16], table: &mut [u32], at: usize)
-    requires { ⌜ (at + rowWidth ≤ length (now notes)) × (at + rowWidth ≤ length (now table)) ⌝ }
-    ensures { λ r. ⌜ now (table .exit) ≡ take at (now (table .entry)) ++ ((getD (now (notes .entry)) at 0 ∷ getD (now (notes .entry)) (at + 1) 0 ∷ getD (now (notes .entry)) (at + 2) 0 ∷ getD (now (notes .entry)) (at + 3) 0 ∷ []) ++ drop (at + rowWidth) (now (table .entry))) ⌝ }
+// Copies a row's numbers from a note into a table, its envelope's ordinal behind them.
+fn copy_row(notes: &[u16], from: usize, table: &mut [u32], at: usize, ordinal: u32)
+    requires { ⌜ OneCopied (now notes) from (now table) at ⌝ }
+    ensures { λ r. ⌜ now (table .exit) ≡ take at (now (table .entry)) ++ (numbers (rowFrom (now (notes .entry)) from) ordinal ++ drop (at + rowWidth) (now (table .entry))) ⌝ }
 {
-    table[at] = widened(notes[at]);
-    table[at + 1] = widened(notes[at + 1]);
-    table[at + 2] = widened(notes[at + 2]);
-    table[at + 3] = widened(notes[at + 3]);
+    table[at] = widened(notes[from]);
+    table[at + 1] = widened(notes[from + 1]);
+    table[at + 2] = widened(notes[from + 2]);
+    table[at + 3] = widened(notes[from + 3]);
+    table[at + 4] = ordinal;
 }
 
-// Copies so many rows into a table; what lies behind them stays as it was.
-fn copy_rows(notes: &[u16], rows: usize, table: &mut [u32])
-    requires { ⌜ (rowWidth * rows ≤ length (now notes)) × (rowWidth * rows ≤ length (now table)) ⌝ }
-    ensures { λ r. ⌜ now (table .exit) ≡ overlaid (take (rowWidth * rows) (now (notes .entry))) (now (table .entry)) ⌝ }
+// Copies the rows of one envelope, or of none; what lies behind them in the table stays as it was.
+fn copy_alone(notes: &[u16], rows: usize, table: &mut [u32])
+    requires { ⌜ Copies (now notes) rows (now table) ⌝ }
+    ensures { λ r. ⌜ now (table .exit) ≡ overlaid (allNumbers (rowsNoted (now (notes .entry))) (map (λ (r : Row). 0) (rowsNoted (now (notes .entry))))) (now (table .entry)) ⌝ }
 {
     let mut i = 0;
     while i < rows {
-        copy_row(notes, table, ROW * i);
+        copy_row(notes, NOTE * i, table, ROW * i, 0);
         i += 1;
     }
 }
 
+// The ordinal at a row of a kind, behind a row with an ordinal. As a test for 'less' the kind costs two instructions a row, for 'equal' four.
+fn raised_by(ordinal: u32, kind: u16) -> u32
+    requires { ⌜ ordinal ≤ mostRows ⌝ }
+    ensures { λ r. ⌜ r ≡ raised ordinal kind ⌝ }
+{
+    if kind < 2 { ordinal + 1 } else { ordinal }
+}
+
+// Copies the rows of several envelopes, counted by their indicators.
+fn copy_several(notes: &[u16], rows: usize, table: &mut [u32])
+    requires { ⌜ Copies (now notes) rows (now table) ⌝ }
+    ensures { λ r. ⌜ now (table .exit) ≡ overlaid (allNumbers (rowsNoted (now (notes .entry))) (byCounting (kindsOf (rowsNoted (now (notes .entry)))))) (now (table .entry)) ⌝ }
+{
+    if rows == 0 {
+        return;
+    }
+    copy_row(notes, 0, table, 0, 0);
+    let later = rows - 1;
+    let mut ordinal = 0;
+    let mut i = 0;
+    while i < later {
+        ordinal = raised_by(ordinal, notes[NOTE * i + NOTE]);
+        copy_row(notes, NOTE * i + NOTE, table, ROW * i + ROW, ordinal);
+        i += 1;
+    }
+}
+
+// Copies the rows of so many envelopes. Most labels have one, whose rows need no counting.
+fn copy_rows(envelopes: usize, notes: &[u16], rows: usize, table: &mut [u32])
+    requires { ⌜ Copies (now notes) rows (now table) ⌝ }
+    ensures { λ r. ⌜ now (table .exit) ≡ overlaid (allNumbers (rowsNoted (now (notes .entry))) (ordinalsNoted envelopes (rowsNoted (now (notes .entry))))) (now (table .entry)) ⌝ }
+{
+    if envelopes < 2 {
+        copy_alone(notes, rows, table);
+        return;
+    }
+    copy_several(notes, rows, table);
+}
+
+// Lack of room, or too many rows.
+fn refused_for(reason: Reason) -> Reading
+    ensures { λ r. ⌜ answerOf r ≡ refusal reason 0 ⌝ }
+{
+    Reading::Refused(Refusal { reason, place: 0 })
+}
+
 // Hands the rows noted, of a message with so many envelopes, over to a table of any length, whose room is its length divided by the numbers of
-// a row: accepted, and the table's first numbers are the notes'; or refused for lack of room, and the table stays as it was.
+// a row: accepted, and the table's first numbers are the rows', each with its envelope's ordinal; or refused for lack of room, or for more rows
+// than a message may have, and the table stays as it was.
 pub fn hand_over(envelopes: usize, notes: &[u16], table: &mut [u32]) -> Reading
     ensures answer { λ r. ⌜ answerOf r ≡ answerFrom envelopes (now (notes .entry)) (roomOf (now (table .entry))) ⌝ }
-    ensures rows { λ _. ⌜ now (table .exit) ≡ tableFrom (now (notes .entry)) (now (table .entry)) ⌝ }
+    ensures rows { λ _. ⌜ now (table .exit) ≡ tableFrom envelopes (now (notes .entry)) (now (table .entry)) ⌝ }
 {
     let rows = notes.len() / NOTE;
-    if table.len() / ROW < rows {
-        return Reading::Refused(Refusal {
-            reason: Reason::NoRoom,
-            place: 0,
-        });
+    if MOST_ROWS < rows {
+        return refused_for(Reason::TooManyRows);
     }
-    copy_rows(notes, rows, table);
+    if table.len() / ROW < rows {
+        return refused_for(Reason::NoRoom);
+    }
+    copy_rows(envelopes, notes, rows, table);
     Reading::Accepted(Counts { envelopes, rows })
 }
 

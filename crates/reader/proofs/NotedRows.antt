@@ -3,23 +3,30 @@
 use Prim.Native.Nat.{ℕ, zero, suc, _+_, _*_, _≤_, _<_}
 use mathlib.Core.Path.{_≡_, refl, sym, ap, _∙_, subst}
 use mathlib.Core.Bool.{Bool, true, false, cond}
-use mathlib.Core.List.{List, [], _∷_, _++_}
+use mathlib.Core.List.{List, [], _∷_, _++_, map}
 use native.Mathlib.Omega.{arith}
 use native.Mathlib.Numerals.{add-one}
-use borrow.Author.Tests.{ltb-true, ltb-false}
+use borrow.Author.Tests.{ltb-true, ltb-false, le-ltb}
 use lib.ListN.{length, getD, take, drop}
-use lib.Seq.{take-add, take-all, length-take-le}
+use lib.Seq.{take-add, take-all}
 use lib.Dec.{ltb}
 use Rattle.label.specs.declared.Counts.{Counts}
-use Rattle.label.specs.declared.Reason.the-variants.{NoRoom}
+use Rattle.label.specs.declared.Reading.the-variants.{Accepted}
+use Rattle.label.specs.declared.Reason.the-variants.{TooManyRows, NoRoom}
 use Rattle.label.specs.declared.Stretch.{Stretch}
 use Rattle.label.specs.Bytes.{Bytes}
+use Rattle.label.specs.Limits.{mostRows}
 use Rattle.label.specs.Formats.{edition2005}
-use Rattle.label.specs.Layout.{Row, numbers, allNumbers}
-use Rattle.label.specs.ReadMessage.{reading}
-use Rattle.label.specs.Answer.{accepted, refusal, roomOf, overlaid, rowsRead}
-use Rattle.noted.specs.Noted.{noteWidth, answerFrom, tableFrom, stretchFrom}
-use Rattle.noted.proofs.Copying.{four-from}
+use Rattle.label.specs.Layout.{Row, allNumbers}
+use Rattle.label.specs.Message.{rowsOf, ordinalsOf}
+use Rattle.label.specs.ReadMessage.{Outcome, read, refused, reading}
+use Rattle.label.specs.Answer.{accepted, refusal, roomOf, overlaid, rowsRead, ordinalsRead}
+use Rattle.label.specs.Counting.{kindsOf, byCounting}
+use Rattle.label.proofs.Tests.{cond-no}
+use Rattle.label.proofs.Ordinals.{ordinals-counted, ordinals-of-one}
+use Rattle.label.proofs.Answers.{rows-few}
+use Rattle.leaves.proofs.Turns.{four-there}
+use Rattle.noted.specs.Noted.{noteWidth, rowsNoted, ordinalsNoted, answerFrom, tableFrom, stretchFrom}
 use Rattle.walk.specs.Cursors.{rowOf}
 use Rattle.stretches.specs.Stretches.{Lies}
 use Rattle.sweeps.specs.declared.Swept.{Swept}
@@ -28,14 +35,27 @@ use Rattle.sweeps.specs.Quick.{cursorAfter, Holds, Kept, SweptSo, Handed, OneKe
 use Rattle.walk.proofs.Walks.{Yields}
 use Rattle.walk.proofs.Promises.{walked}
 use Rattle.walk.proofs.Standing.{rows-here, yields-next}
+use Rattle.judge.specs.Shown.{judgedAs}
 use Rattle.judge.proofs.Judged.{rows-judged}
 use Rattle.stretches.proofs.Lying.{lies-here, lies-nowhere}
-use Rattle.exact.proofs.Filling.{all-numbers-append}
 use Rattle.exact.proofs.ReadLaws.{Told, is-accepted}
 
+-- the rows of notes, and back
+abbrev noteNumbers : List Row → List ℕ
+noteNumbers [] = []
+noteNumbers (r ∷ rs) = r .kind ∷ r .format ∷ r .start ∷ r .length ∷ noteNumbers rs
+
+noted-back : (rs : List Row) → rowsNoted (noteNumbers rs) ≡ rs
+noted-back [] = refl
+noted-back (r ∷ rs) = ap (λ rest. r ∷ rest) (noted-back rs)
+
+note-append : (rs rs′ : List Row) → noteNumbers (rs ++ rs′) ≡ noteNumbers rs ++ noteNumbers rs′
+note-append [] rs′ = refl
+note-append (r ∷ rs) rs′ = ap (λ ns. r .kind ∷ r .format ∷ r .start ∷ r .length ∷ ns) (note-append rs rs′)
+
 -- a row's numbers, read off
-held-numbers : (ns : List ℕ) (at : ℕ) (r : Row) → Holds ns at r → getD ns at 0 ∷ getD ns (at + 1) 0 ∷ getD ns (at + 2) 0 ∷ getD ns (at + 3) 0 ∷ [] ≡ numbers r
-held-numbers ns at r holds = λ i. holds .kind i ∷ holds .format i ∷ holds .start i ∷ holds .length i ∷ []
+held-numbers : (ns : List ℕ) (at : ℕ) (r : Row) → at + noteWidth ≤ length ns → Holds ns at r → take noteWidth (drop at ns) ≡ noteNumbers (r ∷ [])
+held-numbers ns at r fits holds = ap (take noteWidth) (four-there ns at fits) ∙ (λ i. holds .kind i ∷ holds .format i ∷ holds .start i ∷ holds .length i ∷ [])
 
 module _ (m : Bytes) where
   abbrev all : List Row
@@ -46,29 +66,29 @@ module _ (m : Bytes) where
   yields-after (suc i) within =
       subst (λ (n : ℕ). Yields m (cursorAfter m (suc i)) (drop n all)) (add-one i) (yields-next m all (cursorAfter m i) i (yields-after i (omega arith)) (omega arith))
 
-  pub noted-numbers : (notes : List ℕ) (rows i : ℕ) → Kept m 0 notes rows → noteWidth * i + noteWidth ≤ length notes → i < rows
-      → getD notes (noteWidth * i) 0 ∷ getD notes (noteWidth * i + 1) 0 ∷ getD notes (noteWidth * i + 2) 0 ∷ getD notes (noteWidth * i + 3) 0 ∷ [] ≡ numbers (rowOf (cursorAfter m i))
+  noted-numbers : (notes : List ℕ) (rows i : ℕ) → Kept m 0 notes rows → noteWidth * i + noteWidth ≤ length notes → i < rows
+      → take noteWidth (drop (noteWidth * i) notes) ≡ noteNumbers (rowOf (cursorAfter m i) ∷ [])
   noted-numbers notes rows i kept fits less =
       let same : 0 + i ≡ i = omega arith in
-      held-numbers notes (noteWidth * i) (rowOf (cursorAfter m i)) (subst (λ (n : ℕ). Holds notes (noteWidth * i) (rowOf (cursorAfter m n))) same (kept i fits (omega arith)))
+      held-numbers notes (noteWidth * i) (rowOf (cursorAfter m i)) fits (subst (λ (n : ℕ). Holds notes (noteWidth * i) (rowOf (cursorAfter m n))) same (kept i fits (omega arith)))
 
   -- and so the numbers of the first rows, one behind the other
   module _ (notes : List ℕ) (rows : ℕ) (kept : Kept m 0 notes rows) (fits : noteWidth * rows ≤ length notes) (counted : rows ≡ length all) where
     one-more : (i : ℕ) → i < rows → take (i + 1) all ≡ take i all ++ (rowOf (cursorAfter m i) ∷ [])
     one-more i less = take-add i 1 all ∙ ap (λ rs. take i all ++ take 1 rs) (rows-here m all (cursorAfter m i) i (yields-after i (omega (arith, counted))) (omega (arith, counted)))
 
-    noted-up-to : (i : ℕ) → i ≤ rows → take (noteWidth * i) notes ≡ allNumbers (take i all)
+    noted-up-to : (i : ℕ) → i ≤ rows → take (noteWidth * i) notes ≡ noteNumbers (take i all)
     noted-up-to zero within = refl
     noted-up-to (suc i) within =
         let further : noteWidth * suc i ≡ noteWidth * i + noteWidth = omega arith in
         ap (λ n. take n notes) further
         ∙ take-add (noteWidth * i) noteWidth notes
-        ∙ (λ j. noted-up-to i (omega arith) j ++ (four-from notes (noteWidth * i) (omega arith) ∙ noted-numbers notes rows i kept (omega arith) (omega arith)) j)
-        ∙ sym (all-numbers-append (take i all) (rowOf (cursorAfter m i) ∷ []))
-        ∙ ap allNumbers (sym (one-more i (omega arith)) ∙ ap (λ n. take n all) (add-one i))
+        ∙ (λ j. noted-up-to i (omega arith) j ++ noted-numbers notes rows i kept (omega arith) (omega arith) j)
+        ∙ sym (note-append (take i all) (rowOf (cursorAfter m i) ∷ []))
+        ∙ ap noteNumbers (sym (one-more i (omega arith)) ∙ ap (λ n. take n all) (add-one i))
 
-    pub all-noted : take (noteWidth * rows) notes ≡ allNumbers all
-    all-noted = noted-up-to rows (omega arith) ∙ ap allNumbers (take-all rows all (omega (arith, counted)))
+    pub all-noted : rowsNoted (take (noteWidth * rows) notes) ≡ all
+    all-noted = ap rowsNoted (noted-up-to rows (omega arith)) ∙ noted-back (take rows all) ∙ take-all rows all (omega (arith, counted))
 
   -- the only row that is noted
   pub noted-lies : (notes : List ℕ) (rows row : ℕ) → Kept m row notes rows → noteWidth ≤ length notes → row < rows → rows ≡ length all → Lies m row (getD notes 2 0) (getD notes 3 0)
@@ -78,19 +98,34 @@ module _ (m : Bytes) where
       let lies = lies-here m (cursorAfter m row) row (yields-after row (omega (arith, counted))) (omega (arith, counted)) in
       subst (λ (s : ℕ). Lies m row s (getD notes 3 0)) (sym (holds .start)) (subst (λ (l : ℕ). Lies m row (cursorAfter m row .start) l) (sym (holds .length)) lies)
 
+-- the ordinals of rows that are noted, by the envelopes that were counted, are those of the reading
+ordinals-noted : (o : Outcome) (counts : Counts) → judgedAs o ≡ Accepted counts → ordinalsNoted (counts .envelopes) (rowsRead o) ≡ ordinalsRead o
+ordinals-noted (read es) counts says =
+    let is : counts ≡ record { envelopes = length es; rows = length (rowsOf es) } = cc in
+    ap (λ (c : Counts). ordinalsNoted (c .envelopes) (rowsOf es)) is ∙ by (ltb 1 (length es)) refl
+  where
+    by : (several : Bool) → ltb 1 (length es) ≡ several → cond several (byCounting (kindsOf (rowsOf es))) (map (λ (r : Row). 0) (rowsOf es)) ≡ ordinalsOf es
+    by true more = sym (ordinals-counted es)
+    by false few = sym (ordinals-of-one es (ltb-false 1 (length es) few))
+ordinals-noted (refused r p) counts says = let z : _≡_ {A = ℕ} 0 1 = cc in absurd (omega arith)
+
 -- what becomes of the notes of a swept message is what becomes of its rows
 pub handed-so : (m : Bytes) (counts : Counts) (notes table : List ℕ) → Handed m counts notes
-    → Told m table (tableFrom (take (noteWidth * counts .rows) notes) table) (answerFrom (counts .envelopes) (take (noteWidth * counts .rows) notes) (roomOf table))
+    → Told m table (tableFrom (counts .envelopes) (take (noteWidth * counts .rows) notes) table) (answerFrom (counts .envelopes) (take (noteWidth * counts .rows) notes) (roomOf table))
 handed-so m counts notes table handed =
-    let ns = take (noteWidth * counts .rows) notes in
-    let long : length ns ≡ noteWidth * counts .rows = length-take-le (noteWidth * counts .rows) notes (handed .roomy) in
-    let rows : roomOf ns ≡ counts .rows = omega (arith, long) in
-    let all : take (noteWidth * roomOf ns) ns ≡ allNumbers (rowsRead (reading edition2005 m)) =
-    take-all (noteWidth * roomOf ns) ns (omega (arith, long, rows)) ∙ all-noted m notes (counts .rows) (handed .kept) (handed .roomy) (rows-judged m counts (handed .judged)) in
+    let all = rowsRead (reading edition2005 m) in
+    let many = rows-judged m counts (handed .judged) in
+    let rows = all-noted m notes (counts .rows) (handed .kept) (handed .roomy) many in
+    let few = le-ltb mostRows (length all) (rows-few edition2005 m) in
+    let os = ordinals-noted (reading edition2005 m) counts (handed .judged) in
     let so = is-accepted m table counts (handed .judged) in
     record {
-      answered-so = (λ j. cond (ltb (roomOf table) (rows j)) (refusal NoRoom 0) (accepted (counts .envelopes) (rows j))) ∙ so .answered-so;
-      filled-so = (λ j. cond (ltb (roomOf table) (rows j)) table (overlaid (all j) table)) ∙ so .filled-so;
+      answered-so =
+          (λ j. cond (ltb mostRows (length (rows j))) (refusal TooManyRows 0) (cond (ltb (roomOf table) (length (rows j))) (refusal NoRoom 0) (accepted (counts .envelopes) (length (rows j)))))
+          ∙ cond-no _ _ _ few ∙ (λ j. cond (ltb (roomOf table) (sym many j)) (refusal NoRoom 0) (accepted (counts .envelopes) (sym many j))) ∙ so .answered-so;
+      filled-so =
+          (λ j. cond (ltb mostRows (length (rows j))) table (cond (ltb (roomOf table) (length (rows j))) table (overlaid (allNumbers (rows j) (ordinalsNoted (counts .envelopes) (rows j))) table)))
+          ∙ cond-no _ _ _ few ∙ (λ j. cond (ltb (roomOf table) (sym many j)) table (overlaid (allNumbers all (os j)) table)) ∙ so .filled-so;
     }
 
 -- likewise of the note of its only row

@@ -8,8 +8,8 @@ use label::Reading;
 use label::Writing;
 use libc::STDOUT_FILENO;
 
-// Room for a line of four numbers: each takes at most 20 digits and the byte behind it.
-const LINE: usize = 84;
+// Room for a line of a row's numbers: each takes at most 20 digits and the byte behind it.
+const LINE: usize = 21 * ROW;
 
 // Prints the line of what the writer answers: 0 and the byte count, or the reason's number.
 pub fn print_writing(writing: Writing) {
@@ -48,7 +48,7 @@ fn print_rows(table: &[u32], rows: usize) {
     }
 }
 
-// Prints a row, counted from 0: kind, format, start, length. Prints nothing if the table has no such row.
+// Prints a row, counted from 0: kind, format, start, length, ordinal. Prints nothing if the table has no such row.
 pub fn print_row(table: &[u32], row: usize) {
     if row < table.len() / ROW {
         let at = row * ROW;
@@ -56,8 +56,9 @@ pub fn print_row(table: &[u32], row: usize) {
         let a = put_number(wide(table[at]), b' ', &mut line, 0);
         let b = put_number(wide(table[at + 1]), b' ', &mut line, a);
         let c = put_number(wide(table[at + 2]), b' ', &mut line, b);
-        let d = put_number(wide(table[at + 3]), b'\n', &mut line, c);
-        io::write_all(STDOUT_FILENO, &line[..d]);
+        let d = put_number(wide(table[at + 3]), b' ', &mut line, c);
+        let e = put_number(wide(table[at + 4]), b'\n', &mut line, d);
+        io::write_all(STDOUT_FILENO, &line[..e]);
     }
 }
 

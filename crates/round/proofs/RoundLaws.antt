@@ -11,15 +11,14 @@ use Rattle.label.specs.declared.Writing.{Writing}
 use Rattle.label.specs.Bytes.{Bytes}
 use Rattle.label.specs.Limits.{mostRows, rowWidth}
 use Rattle.label.specs.Formats.{edition2005}
-use Rattle.label.specs.Layout.{allNumbers}
-use Rattle.label.specs.Message.{rowsOf}
+use Rattle.label.specs.Message.{rowsOf, numbersOf}
 use Rattle.label.specs.ReadMessage.{Outcome, read, refused, reading}
-use Rattle.label.specs.Answer.{answerOf, roomOf, answered, readAnswer, tableAfter, rowsRead}
+use Rattle.label.specs.Answer.{answerOf, roomOf, answered, readAnswer, tableAfter, numbersRead}
 use Rattle.label.specs.Writing.{writeAnswerOf, writeAnswer, outputAfter}
 use Rattle.label.proofs.Promises.{accepted-is-good, good-is-read, good-is-accepted}
 use Rattle.label.proofs.RowItems.{table-numbers}
 use Rattle.label.proofs.WriterPromises.{written-back-counted, written-back-there}
-use Rattle.round.specs.Round.{numbersRead, HoldsRead, GoesRound}
+use Rattle.round.specs.Round.{HoldsRead, GoesRound}
 
 module _ (m : Bytes) (table after : List ℕ) (ample : rowWidth * mostRows ≤ length table) (long : length after ≡ length table) (is : after ≡ tableAfter edition2005 m table) where
   -- accepted: as many rows as are read, and the table's first numbers are theirs
@@ -34,7 +33,7 @@ module _ (m : Bytes) (table after : List ℕ) (ample : rowWidth * mostRows ≤ l
           let counted : counts .rows ≡ length (rowsOf es) = ap (λ l. getD l 2 0) (says ∙ good-is-accepted edition2005 m es good (roomOf table) room) in
           record {
             inside = omega (arith, counted, good .notTooMany);
-            numbers = (λ i. take (rowWidth * counted i) (is i)) ∙ table-numbers edition2005 m es good table room ∙ ap (λ o. allNumbers (rowsRead o)) (sym reads);
+            numbers = (λ i. take (rowWidth * counted i) (is i)) ∙ table-numbers edition2005 m es good table room ∙ ap numbersRead (sym reads);
           }
       by (refused r p) reads = absurd (omega (arith, ap length (says ∙ ap (answered (roomOf table)) reads)))
 
@@ -46,13 +45,13 @@ module _ (m : Bytes) (table after : List ℕ) (ample : rowWidth * mostRows ≤ l
       by (read es) reads =
           let good = accepted-is-good edition2005 m es reads in
           absurd (omega (arith, ap length (says ∙ good-is-accepted edition2005 m es good (roomOf table) (omega (arith, good .notTooMany)))))
-      by (refused r p) reads = record { inside = omega arith; numbers = ap (λ o. allNumbers (rowsRead o)) (sym reads) }
+      by (refused r p) reads = record { inside = omega arith; numbers = ap numbersRead (sym reads) }
 
 -- an answer and an output as the definitions have them for the numbers read: a good message has gone round
-pub goes-round : (m output out : Bytes) (a : Writing) → writeAnswerOf a ≡ writeAnswer edition2005 m (numbersRead m) (length output) → out ≡ outputAfter edition2005 m (numbersRead m) output
+pub goes-round : (m output out : Bytes) (a : Writing) → writeAnswerOf a ≡ writeAnswer edition2005 m (numbersRead (reading edition2005 m)) (length output) → out ≡ outputAfter edition2005 m (numbersRead (reading edition2005 m)) output
     → GoesRound m output out a
 goes-round m output out a answer bytes es good room =
-    let numbers : numbersRead m ≡ allNumbers (rowsOf es) = ap (λ o. allNumbers (rowsRead o)) (good-is-read edition2005 m es good) in (
+    let numbers : numbersRead (reading edition2005 m) ≡ numbersOf es = ap numbersRead (good-is-read edition2005 m es good) in (
       answer ∙ ap (λ ns. writeAnswer edition2005 m ns (length output)) numbers ∙ written-back-counted edition2005 m es good (length output) room,
       bytes ∙ ap (λ ns. outputAfter edition2005 m ns output) numbers ∙ written-back-there edition2005 m es good output room,
     )

@@ -6,21 +6,16 @@ use lib.ListN.{length, take}
 use Rattle.label.specs.declared.Writing.{Writing}
 use Rattle.label.specs.Bytes.{Bytes}
 use Rattle.label.specs.Formats.{edition2005}
-use Rattle.label.specs.Layout.{allNumbers}
 use Rattle.label.specs.Envelope.{Envelope}
 use Rattle.label.specs.Message.{Good}
 use Rattle.label.specs.ReadMessage.{reading}
-use Rattle.label.specs.Answer.{overlaid, rowsRead}
+use Rattle.label.specs.Answer.{overlaid, numbersRead}
 use Rattle.label.specs.Writing.{writeAnswerOf}
-
--- the numbers of the rows that are read in a message
-abbrev pub numbersRead : Bytes → List ℕ
-numbersRead m = allNumbers (rowsRead (reading edition2005 m))
 
 -- so many of a table's first numbers are those read
 pub record HoldsRead (m : Bytes) (n : ℕ) (table : List ℕ) : Type 0 where
   pub inside : n ≤ length table
-  pub numbers : take n table ≡ numbersRead m
+  pub numbers : take n table ≡ numbersRead (reading edition2005 m)
 
 -- a good message that the output has room for is answered with its length, and its bytes are the output's first
 abbrev pub GoesRound : Bytes → Bytes → Bytes → Writing → Type 0

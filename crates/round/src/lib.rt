@@ -8,8 +8,10 @@ ghost use mathlib.Core.Path.{_≡_};
 ghost use lib.ListN.{length};
 ghost use Rattle.label.specs.Limits.{mostRows, rowWidth};
 ghost use Rattle.label.specs.Formats.{edition2005};
+ghost use Rattle.label.specs.ReadMessage.{reading};
+ghost use Rattle.label.specs.Answer.{numbersRead};
 ghost use Rattle.label.specs.Writing.{writeAnswerOf, writeAnswer, outputAfter};
-ghost use Rattle.round.specs.Round.{numbersRead, HoldsRead, GoesRound};
+ghost use Rattle.round.specs.Round.{HoldsRead, GoesRound};
 
 // Reads a message into a table with room for any, and answers how many numbers the rows read are.
 fn numbers_into(message: &[u8], table: &mut [u32]) -> usize
@@ -26,8 +28,8 @@ fn numbers_into(message: &[u8], table: &mut [u32]) -> usize
 // Reads a message into a table of its own, and writes the rows read, taken from the message, to an output. Of a good message
 // the output's first bytes are the message's own; of a refused one no row is read, and none is written.
 pub fn write_again(message: &[u8], output: &mut [u8]) -> Writing
-    ensures answer { λ r. ⌜ writeAnswerOf r ≡ writeAnswer edition2005 (now (message .entry)) (numbersRead (now (message .entry))) (length (now (output .entry))) ⌝ }
-    ensures bytes { λ _. ⌜ now (output .exit) ≡ outputAfter edition2005 (now (message .entry)) (numbersRead (now (message .entry))) (now (output .entry)) ⌝ }
+    ensures answer { λ r. ⌜ writeAnswerOf r ≡ writeAnswer edition2005 (now (message .entry)) (numbersRead (reading edition2005 (now (message .entry)))) (length (now (output .entry))) ⌝ }
+    ensures bytes { λ _. ⌜ now (output .exit) ≡ outputAfter edition2005 (now (message .entry)) (numbersRead (reading edition2005 (now (message .entry)))) (now (output .entry)) ⌝ }
     ensures round { λ r. ⌜ GoesRound (now (message .entry)) (now (output .entry)) (now (output .exit)) r ⌝ }
 {
     let mut table = [0u32; TABLE];

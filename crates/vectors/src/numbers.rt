@@ -1,5 +1,5 @@
-// Numbers in decimal, and rows: `1,6,4,2;3,6,7,3` is two rows, `3*5,3,0,0` a row three times, and `-` no number at all. A row may
-// have more or fewer numbers than four.
+// Numbers in decimal, and rows: `1,6,4,2,0;3,6,7,3,0` is two rows, `3*5,3,0,0,0` a row three times, and `-` no number at all. A row may
+// have more or fewer numbers than five.
 ghost use Rattle.io.specs.Counts.{Counts};
 use crate::split::first;
 

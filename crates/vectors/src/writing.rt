@@ -3,12 +3,16 @@ use crate::notation;
 use crate::numbers;
 use crate::shown;
 use crate::split;
+use label::ROW;
+
+// Room for more rows than a message may have.
+const ROWS_TO_TRY: usize = ROW * 1100;
 
 // Prints what the writer answers for an output's length, rows and data, and the whole output afterwards.
 pub(crate) fn run_rows(text: &[u8]) {
     let length = numbers::number(split::word(text));
     let more = split::rest(text);
-    let mut table = [0u32; 4400];
+    let mut table = [0u32; ROWS_TO_TRY];
     let count = numbers::put_rows(split::word(more), &mut table);
     let mut held = [0u8; 4200];
     let size = notation::expand(split::rest(more), &mut held);

@@ -134,7 +134,8 @@ rows-counted [] = refl
 rows-counted (k ∷ []) = refl
 rows-counted (k ∷ (f ∷ [])) = refl
 rows-counted (k ∷ (f ∷ (s ∷ []))) = refl
-rows-counted (k ∷ (f ∷ (s ∷ (l ∷ ns)))) = let more = rows-counted ns in omega arith
+rows-counted (k ∷ (f ∷ (s ∷ (l ∷ [])))) = refl
+rows-counted (k ∷ (f ∷ (s ∷ (l ∷ (o ∷ ns))))) = let more = rows-counted ns in omega arith
 
 and-none : (a : Bool) {b : Bool} → false ≡ b → false ≡ (a && b)
 and-none true none = none

@@ -12,7 +12,7 @@ ghost use lib.ListN.{length};
 ghost use Rattle.label.specs.Formats.{edition2005};
 ghost use Rattle.label.specs.ReadMessage.{reading};
 ghost use Rattle.label.specs.Answer.{rowsRead};
-ghost use Rattle.label.specs.Writing.{rowsIn, itemsIn, composed, writeAnswerOf, writeAnswer, outputAfter};
+ghost use Rattle.label.specs.Writing.{rowsIn, ordinalsIn, itemsIn, composed, writeAnswerOf, writeAnswer, outputAfter};
 ghost use Rattle.given.specs.Given.{Whole, alike};
 ghost use Rattle.writer.specs.Laying.{Buffered, Composes};
 
@@ -36,14 +36,17 @@ fn same_rows(m: &[u8], rows: &[u32]) -> bool
     true
 }
 
-// Puts the good message with these rows' kinds, formats and contents into the first bytes of a buffer, and answers how many
-// they are; 0 where there is no such message. Rows of the same lengths that are laid out alike have the same contents, so
-// that no content is compared.
+// Puts the good message with these rows' kinds, formats, contents and ordinals into the first bytes of a buffer, and answers how
+// many they are; 0 where there is no such message. Rows of the same lengths that are laid out alike have the same contents, so
+// that no content is compared; and ordinals that are counted right are those of any message with these rows.
 fn compose(held: &[u8], rows: &[u32], out: &mut [u8]) -> usize
     requires { ⌜ Buffered (now held) (now rows) (now out) ⌝ }
-    ensures { λ r. ⌜ Composes (composed edition2005 (itemsIn (now (held .entry)) (now (rows .entry)))) r (now (out .exit)) ⌝ }
+    ensures { λ r. ⌜ Composes (composed edition2005 (itemsIn (now (held .entry)) (now (rows .entry))) (ordinalsIn (now (rows .entry)))) r (now (out .exit)) ⌝ }
 {
     if rows.len() == 0 {
+        return 0;
+    }
+    if !given::ordinals_counted(rows) {
         return 0;
     }
     let count = laying::lay_out(held, rows, out);
@@ -57,7 +60,7 @@ fn compose(held: &[u8], rows: &[u32], out: &mut [u8]) -> usize
     }
 }
 
-// Writes rows, four numbers each, that name stretches of the data held, to an output; all of any length. Written: how many
+// Writes rows, five numbers each, that name stretches of the data held, to an output; all of any length. Written: how many
 // bytes, and the output's first bytes are the message; what follows them stays as it was. Declined: why, and the output stays
 // as it was.
 pub fn write(held: &[u8], rows: &[u32], output: &mut [u8]) -> Writing

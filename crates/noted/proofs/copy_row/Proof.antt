@@ -1,7 +1,7 @@
--- `copy_row` makes four stores.
+-- `copy_row` makes five stores.
 use Prim.Native.Nat.{_+_}
 use lib.ListN.{getD, length-set}
-use Rattle.noted.proofs.Copying.{four-stores}
+use Rattle.noted.proofs.Copying.{five-stores}
 use borrow.Author.Needs.{needs}
 use Rattle.noted.proofs.copy_row.Statement.{statement}
 use Rattle.noted.proofs.copy_row.Tie as tie
@@ -84,6 +84,15 @@ mul-table-4 c = search needs
 slice-write-table-4 : tie.Need-slice-write-table-4
 slice-write-table-4 c = simp length-set (search needs)
 
+add-table-4 : tie.Need-add-table-4
+add-table-4 c = search needs
+
+mul-table-5 : tie.Need-mul-table-5
+mul-table-5 c = search needs
+
+slice-write-table-5 : tie.Need-slice-write-table-5
+slice-write-table-5 c = simp length-set (search needs)
+
 same-length : tie.Need-same-length
 same-length c = search needs
 
@@ -92,8 +101,8 @@ returns c =
     let args = c .before .before .before .before .before .before .before .before .before .before .args in
     let t = args .table .now in
     let ns = args .notes .now in
-    let at = args .at in
-    simp (c .before .before .before .before .before .before .widened .ensures, c .before .before .before .before .widened2 .ensures, c .before .before .widened3 .ensures, c .widened4 .ensures) (four-stores t at (getD ns at 0) (getD ns (at + 1) 0) (getD ns (at + 2) 0) (getD ns (at + 3) 0) (c .before .before .before .before .before .before .before .before .before .before .pre .1))
+    let from = args .from in
+    simp (c .before .before .before .before .before .before .widened .ensures, c .before .before .before .before .widened2 .ensures, c .before .before .widened3 .ensures, c .widened4 .ensures) (five-stores t (args .at) (getD ns from 0) (getD ns (from + 1) 0) (getD ns (from + 2) 0) (getD ns (from + 3) 0) (args .ordinal) (c .before .before .before .before .before .before .before .before .before .before .pre .roomy))
 
 pub copy-row-spec : {M : Type 1} → statement M
 copy-row-spec =
@@ -125,5 +134,8 @@ copy-row-spec =
     add-table-3
     mul-table-4
     slice-write-table-4
+    add-table-4
+    mul-table-5
+    slice-write-table-5
     same-length
     returns)

@@ -5,7 +5,8 @@ use borrow.Author.Needs.{needs}
 use lib.ListN.{length, length-take}
 use Rattle.label.specs.Formats.{edition2005}
 use Rattle.label.specs.Writing.{writeAnswerOf, writeAnswer, outputAfter}
-use Rattle.round.specs.Round.{numbersRead}
+use Rattle.label.specs.ReadMessage.{reading}
+use Rattle.label.specs.Answer.{numbersRead}
 use Rattle.round.proofs.RoundLaws.{goes-round}
 use Rattle.round.proofs.write_again.Statement.{statement}
 use Rattle.round.proofs.write_again.Tie as tie
@@ -37,8 +38,8 @@ returns c =
     let output = args .output .now in
     let numbers = c .before .before .before .before .before .before .numbers-into .ensures .numbers in
     let write = c .before .before .write in
-    let answer : writeAnswerOf (write .result) ≡ writeAnswer edition2005 m (numbersRead m) (length output) = write .ensures .0 ∙ ap (λ ns. writeAnswer edition2005 m ns (length output)) numbers in
-    let bytes : write .last .1 .1 .0 ≡ outputAfter edition2005 m (numbersRead m) output = write .ensures .1 ∙ ap (λ ns. outputAfter edition2005 m ns output) numbers in
+    let answer : writeAnswerOf (write .result) ≡ writeAnswer edition2005 m (numbersRead (reading edition2005 m)) (length output) = write .ensures .0 ∙ ap (λ ns. writeAnswer edition2005 m ns (length output)) numbers in
+    let bytes : write .last .1 .1 .0 ≡ outputAfter edition2005 m (numbersRead (reading edition2005 m)) output = write .ensures .1 ∙ ap (λ ns. outputAfter edition2005 m ns output) numbers in
     (answer, (bytes, goes-round m output (write .last .1 .1 .0) (write .result) answer bytes))
 
 pub write-again-spec : {M : Type 1} → statement M

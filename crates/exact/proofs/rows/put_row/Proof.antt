@@ -1,8 +1,8 @@
--- `put_row` makes four stores.
+-- `put_row` makes five stores.
 use borrow.Author.Needs.{needs}
 use lib.ListN.{length-set}
 use Rattle.walk.specs.Cursors.{kindOf}
-use Rattle.noted.proofs.Copying.{four-stores}
+use Rattle.noted.proofs.Copying.{five-stores}
 use Rattle.exact.proofs.rows.put_row.Statement.{statement}
 use Rattle.exact.proofs.rows.put_row.Tie as tie
 
@@ -48,6 +48,15 @@ mul-t-4 c = search needs
 slice-write-t-4 : tie.Need-slice-write-t-4
 slice-write-t-4 c = simp length-set (search needs)
 
+add-t-4 : tie.Need-add-t-4
+add-t-4 c = search needs
+
+mul-t-5 : tie.Need-mul-t-5
+mul-t-5 c = search needs
+
+slice-write-t-5 : tie.Need-slice-write-t-5
+slice-write-t-5 c = simp length-set (search needs)
+
 same-length : tie.Need-same-length
 same-length c = search needs
 
@@ -56,7 +65,7 @@ returns c =
     let t = c .before .before .before .before .args .t .now in
     let at = c .before .before .before .before .args .at in
     let row = c .before .before .before .before .args .c in
-    simp (c .before .before .kind-of .ensures) (four-stores t at (kindOf (row .stage)) (row .format) (row .start) (row .length) (c .before .before .before .before .pre .roomy))
+    simp (c .before .before .kind-of .ensures) (five-stores t at (kindOf (row .stage)) (row .format) (row .start) (row .length) (c .before .before .before .before .args .ordinal) (c .before .before .before .before .pre .roomy))
 
 pub put-row-spec : {M : Type 1} → statement M
 put-row-spec =
@@ -76,5 +85,8 @@ put-row-spec =
     add-t-3
     mul-t-4
     slice-write-t-4
+    add-t-4
+    mul-t-5
+    slice-write-t-5
     same-length
     returns)
