@@ -1,4 +1,4 @@
-/* Reads a label from standard input with the library, and prints each of its elements on a line; or the number and the place of its
+/* Reads a label from standard input with the library, and prints each of its rows on a line; or the number and the place of its
  * refusal, with exit status 1. */
 #include <stdio.h>
 #include <zielorad.h>
@@ -6,17 +6,17 @@
 int main(void)
 {
     /* one byte more than a label may have is enough to see that it is too long; the table has room for every label */
-    static uint8_t message[4097];
-    static uint32_t table[4096];
+    static uint8_t message[ZIELORAD_LONGEST + 1];
+    static uint32_t table[ZIELORAD_TABLE];
     size_t length = fread(message, 1, sizeof message, stdin);
-    zielorad_reading reading = zielorad_read(message, length, table, sizeof table / sizeof table[0]);
+    zielorad_reading reading = zielorad_read(message, length, table, ZIELORAD_TABLE);
     if (reading.number != 0) {
         printf("refused: %u at %u\n", (unsigned)reading.number, (unsigned)reading.place);
         return 1;
     }
     for (uint32_t row = 0; row < reading.rows; row++) {
-        const uint32_t *numbers = &table[4 * row];
-        printf("kind %u, format %u: ", (unsigned)numbers[0], (unsigned)numbers[1]);
+        const uint32_t *numbers = &table[ZIELORAD_ROW * row];
+        printf("kind %u, format %u, envelope %u: ", (unsigned)numbers[0], (unsigned)numbers[1], (unsigned)numbers[4]);
         fwrite(&message[numbers[2]], 1, numbers[3], stdout);
         putchar('\n');
     }

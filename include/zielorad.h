@@ -22,6 +22,18 @@
 extern "C" {
 #endif
 
+/* Numbers to a row: kind, format, start, length, envelope. */
+#define ZIELORAD_ROW 5
+
+/* The most bytes that a label has. */
+#define ZIELORAD_LONGEST 4096
+
+/* The most rows that a label has. */
+#define ZIELORAD_MOST_ROWS 1024
+
+/* The length of a table with room for every label. */
+#define ZIELORAD_TABLE (ZIELORAD_ROW * ZIELORAD_MOST_ROWS)
+
 /* What reading answers. number 0: the label is good, and has so many envelopes and rows; place is 0. Any other number, 1 to 14 or 30 to
  * 33: the label is refused, and place is the offset in it where the fault is; envelopes and rows are 0. For 30 to 33 that is where the
  * faulty field of format 01 starts, the first field if their number is wrong; for 11 in formats 05 and 06 where the first faulty element
@@ -33,9 +45,10 @@ typedef struct {
     uint32_t rows;
 } zielorad_reading;
 
-/* Reads a message into a table. A row is four numbers: kind, format, start, length; start and length name a stretch of the message. The
- * table has room for table_length / 4 rows; 4,096 numbers are room for every label.
- * Good: the table's first 4 * rows numbers are the rows, and those behind them stay as they were.
+/* Reads a message into a table. A row is five numbers: kind, format, start, length, envelope. Start and length name a stretch of the
+ * message; envelope is the ordinal of the row's envelope in the label, from 0. The table has room for table_length / ZIELORAD_ROW rows;
+ * ZIELORAD_TABLE numbers are room for every label.
+ * Good: the table's first ZIELORAD_ROW * rows numbers are the rows, and those behind them stay as they were.
  * Refused: the table stays as it was. 14 says that the label is good and the table has too little room. */
 zielorad_reading zielorad_read(const uint8_t *message, size_t message_length, uint32_t *table, size_t table_length);
 
@@ -45,11 +58,13 @@ typedef struct {
     uint32_t count;
 } zielorad_written;
 
-/* Writes the one good label whose rows have the kinds, formats and contents of the rows given, in their order. Rows are four numbers
- * each, as zielorad_read leaves them; start and length name stretches of the data, which may overlap and stand in any order.
- * Written: the output's first count bytes are the label, and those behind them stay as they were. 4,096 bytes are room for every label.
- * Not written: the output stays as it was. 20: the row numbers are no multiple of four, more than 1,024 rows, or a stretch leaves the
- * data. 21: there is no such label. 22: the output has too little room. */
+/* Writes the one good label whose rows have the kinds, formats, contents and envelopes of the rows given, in their order. Rows are five
+ * numbers each, as zielorad_read leaves them; start and length name stretches of the data, which may overlap and stand in any order.
+ * Written: the output's first count bytes are the label, and those behind them stay as they were. ZIELORAD_LONGEST bytes are room for
+ * every label.
+ * Not written: the output stays as it was. 20: the row numbers are no multiple of five, more than ZIELORAD_MOST_ROWS rows, or a stretch
+ * leaves the data. 21: there is no such label, or a row's envelope isn't the ordinal of the one that it is in. 22: the output has too
+ * little room. */
 zielorad_written zielorad_write(const uint8_t *data, size_t data_length, const uint32_t *rows, size_t rows_length, uint8_t *output, size_t output_length);
 
 /* A stretch of a message. */
