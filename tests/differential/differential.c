@@ -23,6 +23,13 @@
 enum { EOT = 0x04, FS = 0x1C, GS = 0x1D, RS = 0x1E, US = 0x1F };
 enum { MOST_BYTES = 4096, MOST_ROWS = 1024 };
 
+/* Numbers to a row, and which of them is the ordinal of its envelope. */
+enum { ROW = 5, ORDINAL = 4, ROW_BYTES = ROW * sizeof(uint32_t) };
+
+_Static_assert(ZIELORAD_ROW == ROW && ZIELORAD_LONGEST == MOST_BYTES &&
+               ZIELORAD_MOST_ROWS == MOST_ROWS && ZIELORAD_TABLE == ROW * MOST_ROWS,
+               "the header states the numbers of documents 01 and 02");
+
 /* ---- Chance: splitmix64 ---- */
 
 static uint64_t chance_state;
@@ -83,7 +90,7 @@ static uint8_t any_control(void)
 
 /* ---- Lent memory with guard zones ---- */
 
-enum { GUARD = 64, ARENA_ROOM = 24000 };
+enum { GUARD = 64, ARENA_ROOM = 32000 };
 
 typedef struct {
     size_t start, length;  /* in bytes */
@@ -167,6 +174,7 @@ enum {
     RANDOM_READ,
     TRUE_WRITE,
     FALSE_WRITE,
+    FALSE_ORDINALS_WRITE,
     LIMIT_WRITE,
     PARTS,
     CASE_KINDS
@@ -184,7 +192,8 @@ static const struct {
     {"1,023 to 1,026 rows, read", 8},
     {"random bytes, read", 84},
     {"true rows, written", 110},
-    {"false rows, written", 160},
+    {"false rows, written", 120},
+    {"false ordinals or none, written", 40},
     {"rows at the limits, written", 10},
     {"parts", 50},
 };
@@ -199,6 +208,30 @@ enum { NUMBERS = 34, FIELDS = 15 };
 
 static uint64_t numbers_seen[NUMBERS];
 static uint64_t faults_made[3][FIELDS]; /* 31, 32 and 33, by the field that has it */
+
+/* The ways in which ordinals are made false. */
+enum {
+    ONE_RAISED,
+    ONE_LOWERED,
+    ONE_HUGE,
+    ONE_WITH_MORE_BITS,
+    ALL_FROM_1,
+    ALL_HUGE,
+    BY_ROWS,
+    ALL_0,
+    ALL_THE_LAST,
+    FROM_THE_END,
+    OF_THE_ROW_BEFORE,
+    OF_THE_ROW_BEHIND,
+    FALSE_ORDINALS
+};
+
+/* In the ways that come last a single envelope's ordinals stay true. */
+static const bool one_envelope_will_do[FALSE_ORDINALS] = {
+    [ONE_RAISED] = true, [ONE_LOWERED] = true, [ONE_HUGE] = true, [ONE_WITH_MORE_BITS] = true,
+    [ALL_FROM_1] = true, [ALL_HUGE] = true, [BY_ROWS] = true};
+
+static uint64_t ordinals_made[FALSE_ORDINALS];
 
 /* Refusals of a reading are 1 to 14 and 30 to 33, of a writing 20 to 22. */
 static bool is_answer(unsigned number)
@@ -241,7 +274,7 @@ static void print_rows(const char *name, const uint32_t *numbers, size_t length)
 {
     printf("%s (%zu numbers):", name, length);
     for (size_t i = 0; i < length; i++) {
-        printf(i % 4 == 0 ? " %u" : ",%u", numbers[i]);
+        printf(i % ROW == 0 ? " %u" : ",%u", numbers[i]);
     }
     putchar('\n');
 }
@@ -317,8 +350,9 @@ static void compare_read(const uint8_t *message, size_t length, size_t table_len
                          const knowledge *known)
 {
     uint8_t *input = lend_message(&lent_message, message, length);
-    uint32_t *table = (uint32_t *)(void *)lend(&library_table, table_length * 4, 0);
-    uint32_t *expected = (uint32_t *)(void *)lend(&reference_table, table_length * 4, 0);
+    size_t table_bytes = table_length * sizeof(uint32_t);
+    uint32_t *table = (uint32_t *)(void *)lend(&library_table, table_bytes, 0);
+    uint32_t *expected = (uint32_t *)(void *)lend(&reference_table, table_bytes, 0);
 
     zielorad_reading a = zielorad_read(lent_or_null(input, length), length,
                                        lent_or_null(table, table_length), table_length);
@@ -350,7 +384,7 @@ static void compare_read(const uint8_t *message, size_t length, size_t table_len
         what = "both readings differ from the place known by construction";
     } else if (a.number == 0 && known->rows != NULL &&
                (a.envelopes != known->envelopes || a.rows != known->row_count ||
-                memcmp(table, known->rows, (size_t)known->row_count * 16) != 0)) {
+                memcmp(table, known->rows, (size_t)known->row_count * ROW_BYTES) != 0)) {
         what = "both readings differ from the rows known by construction";
     }
     if (what != NULL) {
@@ -362,7 +396,7 @@ static void compare_read(const uint8_t *message, size_t length, size_t table_len
 
     if (a.number == 0) {
         uint8_t *output = lend(&library_output, length + 1, below(16));
-        zielorad_written back = zielorad_write(input, length, table, (size_t)a.rows * 4,
+        zielorad_written back = zielorad_write(input, length, table, (size_t)a.rows * ROW,
                                                output, length);
         written_back++;
         if (back.number != 0 || back.count != length || memcmp(output, message, length) != 0) {
@@ -403,9 +437,10 @@ static void compare_write(const uint8_t *data, size_t data_length, const uint32_
     if (data_length > 0) {
         memcpy(input, data, data_length);
     }
-    uint32_t *numbers = (uint32_t *)(void *)lend(&lent_rows, rows_length * 4, 0);
+    size_t rows_bytes = rows_length * sizeof(uint32_t);
+    uint32_t *numbers = (uint32_t *)(void *)lend(&lent_rows, rows_bytes, 0);
     if (rows_length > 0) {
-        memcpy(numbers, rows, rows_length * 4);
+        memcpy(numbers, rows, rows_bytes);
     }
     uint8_t *output = lend(&library_output, output_length, shift);
     uint8_t *expected = lend(&reference_output, output_length, shift);
@@ -445,12 +480,13 @@ static void compare_write(const uint8_t *data, size_t data_length, const uint32_
     }
 
     if (a.number == 0) {
-        uint32_t *table = (uint32_t *)(void *)lend(&library_table, rows_length * 4, 0);
+        uint32_t *table = (uint32_t *)(void *)lend(&library_table, rows_bytes, 0);
         zielorad_reading back = zielorad_read(output, a.count, table, rows_length);
         read_back++;
-        bool same = back.number == 0 && (size_t)back.rows * 4 == rows_length;
-        for (size_t i = 0; same && i < rows_length; i += 4) {
+        bool same = back.number == 0 && (size_t)back.rows * ROW == rows_length;
+        for (size_t i = 0; same && i < rows_length; i += ROW) {
             same = table[i] == rows[i] && table[i + 1] == rows[i + 1] &&
+                   table[i + ORDINAL] == rows[i + ORDINAL] &&
                    table[i + 3] == rows[i + 3] && table[i + 2] <= a.count &&
                    table[i + 3] <= a.count - table[i + 2] &&
                    memcmp(output + table[i + 2], input + rows[i + 2], rows[i + 3]) == 0;
@@ -481,8 +517,8 @@ static void compare_part(const uint8_t *message, size_t length, size_t row,
         what = "the library changed the message or its surroundings";
     } else if (known->rows != NULL) {
         bool is_there = row < known->row_count;
-        size_t start = is_there ? known->rows[4 * row + 2] : 0;
-        size_t part_length = is_there ? known->rows[4 * row + 3] : 0;
+        size_t start = is_there ? known->rows[ROW * row + 2] : 0;
+        size_t part_length = is_there ? known->rows[ROW * row + 3] : 0;
         if (a.start != start || a.length != part_length) {
             what = "both parts differ from the part known by construction";
         }
@@ -505,13 +541,13 @@ enum { LABEL_ROOM = 12000, LABEL_ROWS = 2000 };
 typedef struct {
     size_t length;
     size_t reached; /* the greatest length so far */
-    uint32_t envelopes;
+    uint32_t envelopes; /* that have ended, so it is the ordinal of the next one */
     size_t row_count;
     size_t indicator; /* the last envelope's offset */
     size_t body;      /* the last envelope's body */
     bool closed;      /* format 02 took all the rest */
     uint8_t bytes[LABEL_ROOM + GUARD];
-    uint32_t rows[4 * LABEL_ROWS];
+    uint32_t rows[ROW * LABEL_ROWS];
 } label;
 
 static label the_label, second_label;
@@ -571,11 +607,12 @@ static void note_row(label *l, uint32_t kind, uint32_t format, size_t start)
         fprintf(stderr, "the generator wants too many rows\n");
         exit(2);
     }
-    uint32_t *row = &l->rows[4 * l->row_count++];
+    uint32_t *row = &l->rows[ROW * l->row_count++];
     row[0] = kind;
     row[1] = format;
     row[2] = (uint32_t)start;
     row[3] = (uint32_t)(l->length - start);
+    row[ORDINAL] = l->envelopes;
 }
 
 static void open_message(label *l)
@@ -951,15 +988,16 @@ static knowledge known_refusal(uint32_t number, size_t place)
 /* Table lengths of every small size and around the needed one. */
 static size_t some_table(size_t row_count)
 {
-    size_t needed = 4 * row_count;
-    switch (below(10)) {
+    size_t needed = ROW * row_count;
+    switch (below(11)) {
     case 0: return below(41);
     case 1: return needed == 0 ? 0 : needed - 1;
     case 2: return below(needed + 1);
-    case 3: return needed + between(1, 3);
-    case 4: return needed + between(4, 40);
-    case 5: return one_in(4) ? between(4090, 4110) : needed + 8;
-    case 6: return needed >= 4 ? needed - 4 : 0;
+    case 3: return needed + between(1, ROW - 1);
+    case 4: return needed + between(ROW, 40);
+    case 5: return one_in(4) ? ROW * MOST_ROWS - 10 + below(21) : needed + 2 * ROW;
+    case 6: return needed >= ROW ? needed - ROW : 0;
+    case 7: return 4 * row_count; /* enough if a row had no ordinal */
     default: return needed;
     }
 }
@@ -967,7 +1005,7 @@ static size_t some_table(size_t row_count)
 static void read_good(label *l, size_t table_length)
 {
     knowledge known = known_good(l);
-    if (table_length / 4 < l->row_count) {
+    if (table_length / ROW < l->row_count) {
         known = known_refusal(14, 0);
     }
     compare_read(l->bytes, l->length, table_length, &known);
@@ -1324,7 +1362,7 @@ static void miss_8(label *l, size_t *place)
             break;
         case 6: /* no plain byte in a value */
             put_good_header_09(l, payload);
-            at = l->rows[4 * (l->row_count - (one_in(2) ? 3 : 2)) + 2]; /* type or compression */
+            at = l->rows[ROW * (l->row_count - (one_in(2) ? 3 : 2)) + 2]; /* type or compression */
             insert_byte(l, at, one_of("\x1E\x1C\x1F\x7F\x04\xFF"));
             break;
         case 7: /* another byte where a GS is due */
@@ -1753,7 +1791,7 @@ static void miss_field(label *l, size_t *place, uint32_t fault)
             put_faulty_field(l, version, field, fault);
         }
     }
-    put(l, RS);
+    end_envelope(l);
     put_tail(l);
     faults_made[fault - 31][odd - 1]++;
 }
@@ -1917,7 +1955,7 @@ static void case_row_limit_read(void)
     if (has_end) {
         put(l, EOT);
     }
-    size_t table_length = one_in(2) ? 4 * between(1022, 1027) : some_table(row_count);
+    size_t table_length = one_in(2) ? ROW * between(1022, 1027) : some_table(row_count);
     knowledge known;
     if (!has_end) {
         known = known_refusal(4, l->length);
@@ -1999,7 +2037,7 @@ static void case_random_read(void)
 
 /* ---- Rows for the writer ---- */
 
-enum { DATA_ROOM = 20000, NUMBERS_ROOM = 4400 };
+enum { DATA_ROOM = 20000, NUMBERS_ROOM = 7500 };
 
 typedef struct {
     size_t data_length, rows_length;
@@ -2009,6 +2047,15 @@ typedef struct {
 } order;
 
 static order the_order;
+
+static void add_number(order *o, uint32_t number)
+{
+    if (o->rows_length == NUMBERS_ROOM) {
+        fprintf(stderr, "the generator wants too many rows to write\n");
+        exit(2);
+    }
+    o->rows[o->rows_length++] = number;
+}
 
 static void add_data(order *o, const uint8_t *bytes, size_t length)
 {
@@ -2051,9 +2098,9 @@ static void make_order(order *o, const label *l)
 {
     size_t count = l->row_count;
     o->data_length = 0;
-    o->rows_length = 4 * count;
+    o->rows_length = ROW * count;
     o->message_length = l->length;
-    memcpy(o->rows, l->rows, 16 * count);
+    memcpy(o->rows, l->rows, ROW_BYTES * count);
     size_t way = below(4);
     if (way == 0) { /* the message itself */
         add_data(o, l->bytes, l->length);
@@ -2072,7 +2119,7 @@ static void make_order(order *o, const label *l)
     }
     add_odd_data(o, below(4));
     for (size_t i = 0; i < count; i++) {
-        uint32_t *row = &o->rows[4 * turn[i]];
+        uint32_t *row = &o->rows[ROW * turn[i]];
         const uint8_t *content = l->bytes + row[2];
         if (way == 1 && count < 200) {
             row[2] = (uint32_t)overlapping_place(o, content, row[3]);
@@ -2086,8 +2133,8 @@ static void make_order(order *o, const label *l)
     }
     add_odd_data(o, one_in(2) ? 0 : below(6));
     for (size_t i = 0; i < count; i++) { /* an empty stretch may be anywhere */
-        if (o->rows[4 * i + 3] == 0) {
-            o->rows[4 * i + 2] = (uint32_t)between(0, o->data_length);
+        if (o->rows[ROW * i + 3] == 0) {
+            o->rows[ROW * i + 2] = (uint32_t)between(0, o->data_length);
         }
     }
 }
@@ -2131,43 +2178,66 @@ static uint32_t odd_number(size_t around)
     }
 }
 
+static size_t numbers_from(const order *o, size_t row)
+{
+    return o->rows_length - ROW * row;
+}
+
 static void drop_row(order *o, size_t row)
 {
-    memmove(o->rows + 4 * row, o->rows + 4 * row + 4, (o->rows_length - 4 * row - 4) * 4);
-    o->rows_length -= 4;
+    uint32_t *numbers = o->rows + ROW * row;
+    memmove(numbers, numbers + ROW, (numbers_from(o, row) - ROW) * sizeof(uint32_t));
+    o->rows_length -= ROW;
 }
 
 static void double_row(order *o, size_t row)
 {
-    memmove(o->rows + 4 * row + 4, o->rows + 4 * row, (o->rows_length - 4 * row) * 4);
-    o->rows_length += 4;
+    uint32_t *numbers = o->rows + ROW * row;
+    memmove(numbers + ROW, numbers, numbers_from(o, row) * sizeof(uint32_t));
+    o->rows_length += ROW;
+}
+
+/* A second message's rows follow, its ordinals as they were or raised by so much. */
+static void add_message(order *o, const label *l, uint32_t raised)
+{
+    size_t base = o->data_length;
+    add_data(o, l->bytes, l->length);
+    for (size_t i = 0; i < l->row_count; i++) {
+        const uint32_t *row = &l->rows[ROW * i];
+        add_number(o, row[0]);
+        add_number(o, row[1]);
+        add_number(o, row[2] + (uint32_t)base);
+        add_number(o, row[3]);
+        add_number(o, row[ORDINAL] + raised);
+    }
+    o->message_length += l->length;
 }
 
 /* Spoils rows in one way; answers the number that must follow, if it is known. */
 static uint32_t spoil(order *o)
 {
-    size_t count = o->rows_length / 4;
+    size_t count = o->rows_length / ROW;
     if (count == 0) {
         return 21;
     }
     size_t at = below(count);
-    uint32_t *row = &o->rows[4 * at];
+    uint32_t *row = &o->rows[ROW * at];
     switch (below(20)) {
     case 0: /* one number changed by one */
-        row[below(4)] += one_in(2) ? 1u : 0xFFFFFFFFu;
+        row[below(ROW)] += one_in(2) ? 1u : 0xFFFFFFFFu;
         return NOT_KNOWN;
     case 1:
-        row[below(4)] = odd_number(o->data_length);
+        row[below(ROW)] = odd_number(o->data_length);
         return NOT_KNOWN;
     case 2:
         drop_row(o, at);
         return NOT_KNOWN;
     case 3: { /* two rows swapped */
         size_t other = one_in(2) ? (at + 1) % count : below(count);
-        for (size_t i = 0; i < 4; i++) {
+        for (size_t i = 0; i < ROW; i++) {
             uint32_t kept = row[i];
-            row[i] = o->rows[4 * other + i];
-            o->rows[4 * other + i] = kept;
+            row[i] = o->rows[ROW * other + i];
+            o->rows[ROW * other + i] = kept;
         }
         return NOT_KNOWN;
     }
@@ -2183,8 +2253,8 @@ static uint32_t spoil(order *o)
     case 7: { /* another format for all rows of one format */
         uint32_t before = row[1], after = (uint32_t)between(1, 9);
         for (size_t i = 0; i < count; i++) {
-            if (o->rows[4 * i + 1] == before) {
-                o->rows[4 * i + 1] = after;
+            if (o->rows[ROW * i + 1] == before) {
+                o->rows[ROW * i + 1] = after;
             }
         }
         return before == after ? NOT_KNOWN : 21; /* the indicator disagrees */
@@ -2208,21 +2278,21 @@ static uint32_t spoil(order *o)
         row[2] = (uint32_t)(o->data_length + between(1, 3));
         row[3] = 0;
         return 20;
-    case 11: /* no multiple of four */
+    case 11: /* no multiple of five */
         if (one_in(2)) {
-            o->rows_length -= between(1, 3);
+            o->rows_length -= between(1, ROW - 1);
         } else {
-            size_t more = between(1, 3);
+            size_t more = between(1, ROW - 1);
             while (more-- > 0) {
-                o->rows[o->rows_length++] = (uint32_t)below(8);
+                add_number(o, (uint32_t)below(8));
             }
         }
         return 20;
     case 12: /* more than 1,024 rows */
         if (one_in(8)) {
-            size_t wanted = 4 * between(1025, 1028);
+            size_t wanted = ROW * between(1025, 1028);
             for (size_t i = o->rows_length; i < wanted; i++) {
-                o->rows[i] = o->rows[i % (4 * count)];
+                o->rows[i] = o->rows[i % (ROW * count)];
             }
             o->rows_length = wanted;
             return 20;
@@ -2240,7 +2310,7 @@ static uint32_t spoil(order *o)
         return NOT_KNOWN;
     case 15: /* rows at the end or at the start are missing */
         if (one_in(2)) {
-            o->rows_length = 4 * at;
+            o->rows_length = ROW * at;
         } else {
             size_t dropped = at;
             while (dropped-- > 0) {
@@ -2248,31 +2318,28 @@ static uint32_t spoil(order *o)
             }
         }
         return NOT_KNOWN;
-    case 16: { /* a second message's rows follow */
+    case 16: /* a second message's rows follow; its ordinals go on, or begin again */
         good_message(&second_label);
-        size_t base = o->data_length;
-        add_data(o, second_label.bytes, second_label.length);
-        for (size_t i = 0; i < second_label.row_count; i++) {
-            for (size_t j = 0; j < 4; j++) {
-                o->rows[o->rows_length++] = second_label.rows[4 * i + j] + (j == 2 ? (uint32_t)base : 0);
-            }
+        if (one_in(2)) {
+            add_message(o, &second_label, o->rows[o->rows_length - 1] + 1);
+            return NOT_KNOWN;
         }
-        o->message_length += second_label.length;
-        return NOT_KNOWN;
-    }
+        add_message(o, &second_label, 0);
+        return 21; /* an indicator isn't in the envelope of the row before it */
     case 17: /* another row's content */
-        row[2] = o->rows[4 * below(count) + 2];
-        row[3] = o->rows[4 * below(count) + 3];
+        row[2] = o->rows[ROW * below(count) + 2];
+        row[3] = o->rows[ROW * below(count) + 3];
         return NOT_KNOWN;
     case 18: { /* rows of small random numbers */
         size_t rows_drawn = between(1, 6);
         o->rows_length = 0;
         while (rows_drawn-- > 0) {
-            o->rows[o->rows_length++] = (uint32_t)below(9);
-            o->rows[o->rows_length++] = (uint32_t)below(11);
+            add_number(o, (uint32_t)below(9));
+            add_number(o, (uint32_t)below(11));
             uint32_t start = (uint32_t)between(0, o->data_length);
-            o->rows[o->rows_length++] = start;
-            o->rows[o->rows_length++] = (uint32_t)between(0, o->data_length - start);
+            add_number(o, start);
+            add_number(o, (uint32_t)between(0, o->data_length - start));
+            add_number(o, (uint32_t)below(3));
         }
         return NOT_KNOWN;
     }
@@ -2296,6 +2363,17 @@ static uint32_t faulty_rows(order *o)
     return 21;
 }
 
+/* Gives rows the ordinals that are true if they are a good message's, so that a
+ * change of rows isn't refused for its ordinals alone. */
+static void renumber(order *o)
+{
+    uint32_t indicators = 0;
+    for (size_t i = 0; i + ROW <= o->rows_length; i += ROW) {
+        indicators += o->rows[i] == 1;
+        o->rows[i + ORDINAL] = indicators == 0 ? 0 : indicators - 1;
+    }
+}
+
 /* A good message's rows, spoilt. */
 static uint32_t spoilt_rows(order *o)
 {
@@ -2306,13 +2384,92 @@ static uint32_t spoilt_rows(order *o)
         spoil(o);
         known = NOT_KNOWN;
     }
+    if (known == NOT_KNOWN && one_in(2)) {
+        renumber(o);
+    }
     return known;
+}
+
+/* A good message's rows whose ordinals alone aren't true, by an error that a
+ * caller may make or that a writer may overlook. */
+static uint32_t false_ordinals(order *o)
+{
+    size_t way = below(FALSE_ORDINALS);
+    do {
+        good_message(&the_label);
+    } while (the_label.envelopes < 2 && !one_envelope_will_do[way]);
+    make_order(o, &the_label);
+    size_t count = the_label.row_count;
+    uint32_t last = the_label.envelopes - 1;
+    uint32_t *one = &o->rows[ROW * below(count) + ORDINAL];
+    uint32_t before = 0;
+    ordinals_made[way]++;
+    switch (way) {
+    case ONE_RAISED: *one += 1; return 21;
+    case ONE_LOWERED: *one -= 1; return 21;
+    case ONE_HUGE: *one = 0xFFFFFFFFu - (uint32_t)below(3); return 21;
+    case ONE_WITH_MORE_BITS: *one += 1u << between(8, 31); return 21;
+    default: break;
+    }
+    for (size_t i = 0; i < count; i++) {
+        uint32_t *ordinal = &o->rows[ROW * i + ORDINAL], own = *ordinal;
+        switch (way) {
+        case ALL_FROM_1: *ordinal = own + 1; break;
+        case ALL_0: *ordinal = 0; break;
+        case ALL_THE_LAST: *ordinal = last; break;
+        case ALL_HUGE: *ordinal = 0xFFFFFFFFu; break;
+        case FROM_THE_END: *ordinal = last - own; break;
+        case OF_THE_ROW_BEFORE: *ordinal = before; break;
+        case OF_THE_ROW_BEHIND:
+            if (i + 1 < count) {
+                *ordinal = o->rows[ROW * (i + 1) + ORDINAL];
+            }
+            break;
+        default: *ordinal = (uint32_t)i; break; /* BY_ROWS */
+        }
+        before = own;
+    }
+    return 21;
+}
+
+/* Whether a row's stretch leaves the data; the sum is taken in 64 bits. */
+static bool leaves_data(const order *o)
+{
+    for (size_t i = 0; i + ROW <= o->rows_length; i += ROW) {
+        if ((uint64_t)o->rows[i + 2] + o->rows[i + 3] > o->data_length) {
+            return true;
+        }
+    }
+    return false;
+}
+
+/* A good message's rows without their ordinals, as they were before a row had
+ * one. Taken five by five they are no message's: the second row's kind, which is
+ * never 0, stands where the first ordinal is due. */
+static uint32_t four_wide_rows(order *o)
+{
+    good_message(&the_label);
+    make_order(o, &the_label);
+    size_t count = o->rows_length / ROW;
+    for (size_t i = 0; i < count; i++) {
+        memmove(o->rows + ORDINAL * i, o->rows + ROW * i, ORDINAL * sizeof(uint32_t));
+    }
+    o->rows_length = ORDINAL * count;
+    return o->rows_length % ROW != 0 || leaves_data(o) ? 20 : 21;
 }
 
 static void case_false_write(void)
 {
     order *o = &the_order;
     uint32_t known = one_in(6) ? faulty_rows(o) : spoilt_rows(o);
+    compare_write(o->data, o->data_length, o->rows, o->rows_length, some_output(o->message_length),
+                  known);
+}
+
+static void case_false_ordinals_write(void)
+{
+    order *o = &the_order;
+    uint32_t known = one_in(5) ? four_wide_rows(o) : false_ordinals(o);
     compare_write(o->data, o->data_length, o->rows, o->rows_length, some_output(o->message_length),
                   known);
 }
@@ -2335,11 +2492,15 @@ static void case_limit_write(void)
         message_of_rows(l, row_count);
         put(l, EOT);
         make_order(o, l);
-        if (row_count <= MOST_ROWS) {
+        bool is_false = one_in(4); /* one bit of one ordinal */
+        if (is_false) {
+            o->rows[ROW * below(row_count) + ORDINAL] ^= 1u << below(32);
+        }
+        if (row_count <= MOST_ROWS && !is_false) {
             write_true(o);
         } else {
             compare_write(o->data, o->data_length, o->rows, o->rows_length,
-                          some_output(o->message_length), 20);
+                          some_output(o->message_length), row_count <= MOST_ROWS ? 21 : 20);
         }
     }
 }
@@ -2352,8 +2513,9 @@ static void compare_parts(const label *l, const knowledge *known)
     compare_part(l->bytes, l->length, below(count), known);
     compare_part(l->bytes, l->length, one_in(2) ? count - 1 : 0, known);
     compare_part(l->bytes, l->length, count, known);
-    static const size_t far[] = {1023, 1024, 1025, 4096, 0x3FFFFFFF, 0xFFFFFFFF, SIZE_MAX / 4,
-                                 SIZE_MAX / 4 + 1, SIZE_MAX / 2 + 1, SIZE_MAX - 1, SIZE_MAX};
+    static const size_t far[] = {1023, 1024, 1025, 4096, 5120, 0x33333334, 0xFFFFFFFF,
+                                 SIZE_MAX / ROW, SIZE_MAX / ROW + 1, SIZE_MAX / 4 + 1,
+                                 SIZE_MAX / 2 + 1, SIZE_MAX - 1, SIZE_MAX};
     compare_part(l->bytes, l->length, far[below(sizeof far / sizeof far[0])], known);
 }
 
@@ -2400,7 +2562,7 @@ static void run_case(void)
     static void (*const cases[CASE_KINDS])(void) = {
         case_good_read, case_changed_read, case_near_miss_read, case_length_limit_read,
         case_row_limit_read, case_random_read, case_true_write, case_false_write,
-        case_limit_write, case_parts};
+        case_false_ordinals_write, case_limit_write, case_parts};
 
     chance_state = run_seed;
     chance_state = chance() ^ (case_number * 0xD1342543DE82EF95u);
@@ -2437,6 +2599,19 @@ static bool print_faults_made(void)
         }
         putchar('\n');
     }
+    return all_made;
+}
+
+/* Answers whether ordinals were made false in each way. */
+static bool print_ordinals_made(void)
+{
+    bool all_made = true;
+    printf("how often ordinals were made false in each way:\n          ");
+    for (unsigned way = 0; way < FALSE_ORDINALS; way++) {
+        printf(" %llu", (unsigned long long)ordinals_made[way]);
+        all_made = all_made && ordinals_made[way] > 0;
+    }
+    putchar('\n');
     return all_made;
 }
 
@@ -2492,6 +2667,10 @@ int main(int argc, char **argv)
     }
     if (!print_faults_made() && cases >= 100000) {
         printf("DIFFERENCE: a field never had a fault that it can have\n");
+        return 1;
+    }
+    if (!print_ordinals_made() && cases >= 100000) {
+        printf("DIFFERENCE: ordinals were never made false in one of the ways\n");
         return 1;
     }
     printf("no difference\n");

@@ -52,6 +52,19 @@
  * SPOILT 48: a weight can't begin with its point
  * SPOILT 49: a weight's number can't end with its point
  * SPOILT 50: the writer takes a weight of version 02 that has no unit
+ * SPOILT 51: ordinals are counted from 1
+ * SPOILT 52: the ordinal is never raised
+ * SPOILT 53: a table's room is its length divided by four
+ * SPOILT 54: the writer compares no ordinal
+ * SPOILT 55: a row has the ordinal of the row before
+ * SPOILT 56: the ordinal is raised only where the format changes
+ * SPOILT 57: the ordinal is kept in one byte
+ * SPOILT 58: the writer compares the ordinals of indicators only
+ * SPOILT 59: the writer compares the lower 16 bits of an ordinal only
+ * SPOILT 60: a false ordinal is 20
+ * SPOILT 61: 22 stands before a false ordinal's 21
+ * SPOILT 62: 20 is not answered for a multiple of four
+ * SPOILT 63: the reader leaves a table's fifth numbers as they were
  */
 #include "zielorad.h"
 
@@ -64,7 +77,12 @@
 #define SPOILT 0
 #endif
 
-enum { EOT = 0x04, RS = 0x1E, GS = 0x1D, GUARD = 64, AMPLE = 4096 };
+enum { EOT = 0x04, RS = 0x1E, GS = 0x1D, GUARD = 64 };
+
+/* Numbers to a row, the last of them its envelope's ordinal, and to a table with
+ * room for every label. */
+enum { ROW = 5, ORDINAL = 4, ROW_BYTES = ROW * sizeof(uint32_t) };
+enum { MOST_ROWS = 1024, AMPLE = ROW * MOST_ROWS };
 
 static zielorad_reading refusal(uint32_t number, uint32_t place)
 {
@@ -333,6 +351,64 @@ static const uint8_t *amended(const uint8_t *message, size_t length)
     return copy;
 }
 
+/* ---- Ordinals (document 02, No. 9) ---- */
+
+/* The ordinal that an error of the reader gives a row for its own. */
+static uint32_t spoilt_ordinal(const uint32_t *row, bool is_first, uint32_t own)
+{
+    static uint32_t format, raised;
+    switch (SPOILT) {
+    case 51: return own + 1;
+    case 52: return 0;
+    case 55: return is_first ? 0 : own - (row[0] == 1);
+    case 56:
+        raised = is_first ? 0 : raised + (row[0] == 1 && row[1] != format);
+        format = row[1];
+        return raised;
+    case 57: return own & 0xFF;
+    default: return own;
+    }
+}
+
+/* For rows that are refused with 21: what the reference answers if each ordinal
+ * that the error overlooks is made the true one of the indicators in front. */
+static reference_written write_overlooking(const uint8_t *data, size_t data_length,
+                                           const uint32_t *rows, size_t rows_length,
+                                           uint8_t *output, size_t output_length)
+{
+    static uint32_t numbers[AMPLE];
+    uint32_t indicators = 0;
+    for (size_t i = 0; i < rows_length; i++) {
+        bool is_ordinal = i % ROW == ORDINAL;
+        bool is_indicator = is_ordinal && rows[i - ORDINAL] == 1;
+        indicators += is_indicator;
+        uint32_t own = indicators - 1;
+        bool is_overlooked = is_ordinal && (SPOILT != 58 || !is_indicator) &&
+                             (SPOILT != 59 || (own & 0xFFFF) == (rows[i] & 0xFFFF));
+        numbers[i] = is_overlooked ? own : rows[i];
+    }
+    return reference_write(data, data_length, numbers, rows_length, output, output_length);
+}
+
+/* The same, with another refusal where the ordinals alone are false. */
+static reference_written write_refusing(const uint8_t *data, size_t data_length,
+                                        const uint32_t *rows, size_t rows_length,
+                                        size_t output_length)
+{
+    static uint8_t output[4096];
+    reference_written written = {21, 0};
+    uint32_t overlooking = write_overlooking(data, data_length, rows, rows_length, output,
+                                             sizeof output).number;
+    if (SPOILT == 60 && overlooking == 0) {
+        written.number = 20;
+    }
+    if (SPOILT == 61 && overlooking == 0 &&
+        write_overlooking(data, data_length, rows, rows_length, output, output_length).number == 22) {
+        written.number = 22;
+    }
+    return written;
+}
+
 /* ---- The reader ---- */
 
 /* A reading with ample room, altered as an error of the reader would. */
@@ -403,7 +479,7 @@ static zielorad_reading read_spoilt(const uint8_t *message, size_t length, uint3
     }
 
     for (uint32_t i = 0; i < read.rows; i++) {
-        uint32_t *row = rows + 4 * i;
+        uint32_t *row = rows + ROW * i;
         if (row[0] == 1) {
             indicator = row[2];
         }
@@ -424,7 +500,8 @@ static zielorad_reading read_spoilt(const uint8_t *message, size_t length, uint3
         if (SPOILT == 2 && row[0] == 3 && row[3] == 0) {
             continue;
         }
-        memmove(rows + 4 * kept, row, 16);
+        row[ORDINAL] = spoilt_ordinal(row, i == 0, row[ORDINAL]);
+        memmove(rows + ROW * kept, row, ROW_BYTES);
         kept++;
     }
     answer.rows = kept;
@@ -436,16 +513,16 @@ zielorad_reading zielorad_read(const uint8_t *message, size_t message_length,
 {
     static uint32_t rows[AMPLE];
     zielorad_reading answer = read_spoilt(message, message_length, rows);
-    size_t room = table_length / 4;
+    size_t room = table_length / (SPOILT == 53 ? 4 : ROW);
 
-    if (SPOILT == 13 && answer.number == 13 && room < 1024) {
+    if (SPOILT == 13 && answer.number == 13 && room < MOST_ROWS) {
         return refusal(14, 0);
     }
     if (SPOILT == 16 && answer.number == 10) {
         ((uint8_t *)message)[answer.place] = '0' + 1;
     }
     if (SPOILT == 4 && answer.number >= 3 && answer.number <= 12 && answer.place > 4 && room > 0) {
-        uint32_t first[4] = {1, (uint32_t)(message[5] - '0'), 4, 2};
+        uint32_t first[ROW] = {1, (uint32_t)(message[5] - '0'), 4, 2, 0};
         memcpy(table, first, sizeof first);
     }
     if (SPOILT == 24 && answer.number == 0 && answer.rows == room) {
@@ -457,14 +534,16 @@ zielorad_reading zielorad_read(const uint8_t *message, size_t message_length,
     if (answer.number != 0) {
         return answer;
     }
-    if (table_length > 0) {
-        memcpy(table, rows, (size_t)answer.rows * 16);
+    for (size_t i = 0; i < (size_t)answer.rows * ROW && i < table_length; i++) {
+        if (SPOILT != 63 || i % ROW != ORDINAL) {
+            table[i] = rows[i];
+        }
     }
     if (SPOILT == 10) {
         table[-1] = 0;
     }
     if (SPOILT == 12) {
-        for (size_t i = 4 * (size_t)answer.rows; i < table_length; i++) {
+        for (size_t i = ROW * (size_t)answer.rows; i < table_length; i++) {
             table[i] = 0;
         }
     }
@@ -477,9 +556,9 @@ static uint32_t without_zeros(uint8_t *output, uint32_t count)
     static uint32_t rows[AMPLE];
     reference_reading read = reference_read(output, count, rows, AMPLE);
     for (uint32_t i = read.rows; i-- > 3;) {
-        const uint32_t *row = rows + 4 * i;
+        const uint32_t *row = rows + ROW * i;
         if (row[1] == 9 && row[0] == 7) {
-            uint32_t start = row[-4 + 2], length = row[-4 + 3];
+            uint32_t start = row[-ROW + 2], length = row[-ROW + 3];
             while (length > 1 && output[start] == '0') {
                 memmove(output + start, output + start + 1, count - start - 1);
                 count--;
@@ -496,7 +575,7 @@ static reference_written write_without_unit(const uint8_t *data, size_t data_len
                                             const uint32_t *rows, size_t rows_length,
                                             uint8_t *output, size_t output_length)
 {
-    enum { WEIGHT = 4 * 11 }; /* indicator, version and nine fields stand before it */
+    enum { WEIGHT = ROW * 11 }; /* indicator, version and nine fields stand before it */
     static uint8_t longer_data[32768];
     static uint32_t numbers[AMPLE];
     reference_written written = {21, 0};
@@ -508,7 +587,7 @@ static reference_written write_without_unit(const uint8_t *data, size_t data_len
     memcpy(longer_data, data, data_length);
     memcpy(longer_data + data_length, weight, length);
     change_version(true, longer_data + data_length, length);
-    memcpy(numbers, rows, rows_length * 4);
+    memcpy(numbers, rows, rows_length * sizeof(uint32_t));
     numbers[WEIGHT + 2] = (uint32_t)data_length;
     written = reference_write(longer_data, data_length + length, numbers, rows_length,
                               output, output_length);
@@ -528,14 +607,23 @@ zielorad_written zielorad_write(const uint8_t *data, size_t data_length,
     if (SPOILT == 50 && written.number == 21) {
         written = write_without_unit(data, data_length, rows, rows_length, output, output_length);
     }
+    if ((SPOILT == 54 || SPOILT == 58 || SPOILT == 59) && written.number == 21) {
+        written = write_overlooking(data, data_length, rows, rows_length, output, output_length);
+    }
+    if ((SPOILT == 60 || SPOILT == 61) && written.number == 21) {
+        written = write_refusing(data, data_length, rows, rows_length, output_length);
+    }
     zielorad_written answer = {written.number, written.count};
 
+    if (SPOILT == 62 && answer.number == 20 && rows_length % 4 == 0 && rows_length % ROW != 0) {
+        answer.number = 21;
+    }
     if (SPOILT == 5 && answer.number == 0) {
         answer.count = without_zeros(output, answer.count);
     }
     if (SPOILT == 7 && answer.number == 21) {
         size_t needed = 4;
-        for (size_t i = 0; i < rows_length; i += 4) {
+        for (size_t i = 0; i < rows_length; i += ROW) {
             needed += rows[i + 3];
         }
         if (output_length < needed) {
@@ -548,9 +636,9 @@ zielorad_written zielorad_write(const uint8_t *data, size_t data_length,
     if (SPOILT == 9 && answer.number == 0) {
         output[output_length + GUARD - 1] = 0;
     }
-    if (SPOILT == 15 && answer.number == 20 && rows_length % 4 == 0 && rows_length <= 4096) {
+    if (SPOILT == 15 && answer.number == 20 && rows_length % ROW == 0 && rows_length <= AMPLE) {
         bool inside = true;
-        for (size_t i = 0; i < rows_length; i += 4) {
+        for (size_t i = 0; i < rows_length; i += ROW) {
             inside = inside && (uint32_t)(rows[i + 2] + rows[i + 3]) <= data_length;
         }
         if (inside) {

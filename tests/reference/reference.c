@@ -30,7 +30,7 @@ static bool is_capital(uint8_t byte)
 
 /* ---- Rows (first, since the bodies below note them) ---- */
 
-enum { MOST_BYTES = 4096, MOST_ROWS = 1024, NUMBERS_OF_A_ROW = 4 };
+enum { MOST_BYTES = 4096, MOST_ROWS = 1024, NUMBERS_OF_A_ROW = 5 };
 
 enum {
     KIND_INDICATOR = 1,
@@ -42,12 +42,15 @@ enum {
     KIND_BODY = 7
 };
 
+/* By 02, No. 9, a row has a fifth number: the ordinal of its envelope. */
 typedef struct {
-    uint32_t kind, format, start, length;
+    uint32_t kind, format, start, length, envelope;
 } row;
 
-/* All rows are counted, the first 1,024 are kept. */
+/* All rows are counted, the first 1,024 are kept. The reading says which envelope
+ * it is in, counted from 0, and each row that is added then is that one's. */
 typedef struct {
+    uint32_t envelope;
     size_t count;
     row kept[MOST_ROWS];
 } row_list;
@@ -61,6 +64,7 @@ static void add_row(row_list *list, uint32_t kind, uint32_t format, size_t start
         next->format = format;
         next->start = (uint32_t)start;
         next->length = (uint32_t)(end - start);
+        next->envelope = list->envelope;
     }
     list->count++;
 }
@@ -587,6 +591,7 @@ static outcome read_message(const uint8_t *message, size_t length, row_list *row
         uint32_t format = 0;
         size_t next = at;
         size_t place = at;
+        rows->envelope = envelopes;
         uint32_t number = read_envelope(message, length, at, envelopes == 0, rows, &format,
                                         &next, &place);
         if (number != 0) {
@@ -614,7 +619,7 @@ reference_reading reference_read(const uint8_t *message, size_t message_length,
     row_list rows;
     outcome result = read_message(message, message_length, &rows);
 
-    /* "Room is the lent table's length divided by four, rounded down." */
+    /* 02, No. 9: a table has room for a fifth of its numbers, rounded down. */
     if (result.number == 0 && rows.count > table_length / NUMBERS_OF_A_ROW) {
         result = refused(14, 0);
     }
@@ -628,6 +633,7 @@ reference_reading reference_read(const uint8_t *message, size_t message_length,
         table[NUMBERS_OF_A_ROW * i + 1] = rows.kept[i].format;
         table[NUMBERS_OF_A_ROW * i + 2] = rows.kept[i].start;
         table[NUMBERS_OF_A_ROW * i + 3] = rows.kept[i].length;
+        table[NUMBERS_OF_A_ROW * i + 4] = rows.kept[i].envelope;
     }
     reading.envelopes = result.envelopes;
     reading.rows = (uint32_t)rows.count;
@@ -704,7 +710,8 @@ static void put_before_row(candidate *message, uint32_t kind, uint32_t format, u
 }
 
 /* The one message that rows of a good message can come from. For other rows it
- * is some message, whose reading then differs from them. */
+ * is some message, whose reading then differs from them. The ordinals have no say
+ * here: they are compared afterwards. */
 static void lay_out(candidate *message, const uint8_t *data, const uint32_t *rows, size_t count)
 {
     message->length = 0;
@@ -736,7 +743,8 @@ static void lay_out(candidate *message, const uint8_t *data, const uint32_t *row
     }
 }
 
-/* "These kinds, formats and contents in this order." */
+/* "These kinds, formats and contents in this order", and by 02, No. 9, these
+ * ordinals. */
 static bool same_rows(const row_list *read, const uint8_t *message,
                       const uint32_t *rows, size_t count, const uint8_t *data)
 {
@@ -748,7 +756,8 @@ static bool same_rows(const row_list *read, const uint8_t *message,
         size_t start = rows[NUMBERS_OF_A_ROW * i + 2];
         if (found->kind != rows[NUMBERS_OF_A_ROW * i + 0] ||
             found->format != rows[NUMBERS_OF_A_ROW * i + 1] ||
-            found->length != rows[NUMBERS_OF_A_ROW * i + 3]) {
+            found->length != rows[NUMBERS_OF_A_ROW * i + 3] ||
+            found->envelope != rows[NUMBERS_OF_A_ROW * i + 4]) {
             return false;
         }
         for (size_t j = 0; j < found->length; j++) {
@@ -761,7 +770,8 @@ static bool same_rows(const row_list *read, const uint8_t *message,
 }
 
 /* "Refusals, in order: 20 .. 21 .. 22 .. They have no place and change no byte.
- * On success bytes past the count stay as they were." */
+ * On success bytes past the count stay as they were." By 02, No. 9, 20 asks for a
+ * multiple of five, and rows whose ordinals aren't true are 21. */
 reference_written reference_write(const uint8_t *data, size_t data_length,
                                   const uint32_t *rows, size_t rows_length,
                                   uint8_t *output, size_t output_length)

@@ -1,6 +1,6 @@
 /* The reference: document 01 in plain C, and document 02 as far as its requests
- * have landed (Nos. 1 and 2), written from the two alone, so that it shares no
- * error with the library it is compared with. Every function allows a null
+ * have landed (Nos. 1, 2 and 9), written from the two alone, so that it shares
+ * no error with the library it is compared with. Every function allows a null
  * pointer where the length is 0. Lengths count elements. */
 #ifndef REFERENCE_H
 #define REFERENCE_H
