@@ -19,7 +19,7 @@
 #include <time.h>
 #include <ucontext.h>
 
-enum { EOT = 0x04, GS = 0x1D, RS = 0x1E, LONGEST = 4096, MOST_NUMBERS = 4096, MOST_CASES = 64 };
+enum { EOT = 0x04, GS = 0x1D, RS = 0x1E, LONGEST = ZIELORAD_LONGEST, MOST_CASES = 64 };
 
 typedef enum { READ, WRITE, PART } operation;
 
@@ -29,7 +29,7 @@ typedef struct {
     uint32_t number; /* the answer expected: 0, or a refusal */
     uint8_t message[LONGEST];
     size_t length;
-    uint32_t rows[MOST_NUMBERS]; /* of the message, for the writer and for the last row */
+    uint32_t rows[ZIELORAD_TABLE]; /* of the message, for the writer and for the last row */
     size_t row_count;
 } bench_case;
 
@@ -212,7 +212,7 @@ typedef struct {
     void (*function)(void);
 } call;
 
-static uint32_t table[MOST_NUMBERS];
+static uint32_t table[ZIELORAD_TABLE];
 static uint8_t output[LONGEST];
 
 static void nothing(void)
@@ -230,12 +230,12 @@ static call call_of(const bench_case *c, const char *side)
     switch (c->asked) {
     case READ:
         k.argument[2] = (uint64_t)(uintptr_t)table;
-        k.argument[3] = MOST_NUMBERS;
+        k.argument[3] = ZIELORAD_TABLE;
         k.function = ours ? (void (*)(void))zielorad_read : (void (*)(void))reference_read;
         break;
     case WRITE:
         k.argument[2] = (uint64_t)(uintptr_t)c->rows;
-        k.argument[3] = 4 * c->row_count;
+        k.argument[3] = ZIELORAD_ROW * c->row_count;
         k.argument[4] = (uint64_t)(uintptr_t)output;
         k.argument[5] = LONGEST;
         k.function = ours ? (void (*)(void))zielorad_write : (void (*)(void))reference_write;
@@ -268,12 +268,12 @@ static inline void make_call(const call *k)
 
 /* ---- The same answer ---- */
 
-static uint32_t first_table[MOST_NUMBERS];
+static uint32_t first_table[ZIELORAD_TABLE];
 static uint8_t first_output[LONGEST];
 
 static void check(bench_case *c)
 {
-    c->row_count = reference_read(c->message, c->length, c->rows, MOST_NUMBERS).rows;
+    c->row_count = reference_read(c->message, c->length, c->rows, ZIELORAD_TABLE).rows;
     memset(table, 0xA5, sizeof table);
     memset(output, 0xA5, sizeof output);
     memcpy(first_table, table, sizeof table);
@@ -281,15 +281,16 @@ static void check(bench_case *c)
     bool same = false;
     switch (c->asked) {
     case READ: {
-        reference_reading theirs = reference_read(c->message, c->length, first_table, MOST_NUMBERS);
-        zielorad_reading ours = zielorad_read(c->message, c->length, table, MOST_NUMBERS);
+        reference_reading theirs = reference_read(c->message, c->length, first_table, ZIELORAD_TABLE);
+        zielorad_reading ours = zielorad_read(c->message, c->length, table, ZIELORAD_TABLE);
         same = ours.number == c->number && ours.number == theirs.number && ours.place == theirs.place &&
                ours.envelopes == theirs.envelopes && ours.rows == theirs.rows && (c->number != 0 || ours.rows == c->row_count);
         break;
     }
     case WRITE: {
-        reference_written theirs = reference_write(c->message, c->length, c->rows, 4 * c->row_count, first_output, LONGEST);
-        zielorad_written ours = zielorad_write(c->message, c->length, c->rows, 4 * c->row_count, output, LONGEST);
+        size_t numbers = ZIELORAD_ROW * c->row_count;
+        reference_written theirs = reference_write(c->message, c->length, c->rows, numbers, first_output, LONGEST);
+        zielorad_written ours = zielorad_write(c->message, c->length, c->rows, numbers, output, LONGEST);
         same = ours.number == c->number && ours.number == theirs.number && ours.count == theirs.count && ours.count == c->length &&
                memcmp(output, c->message, c->length) == 0;
         break;
@@ -298,8 +299,8 @@ static void check(bench_case *c)
         size_t row = c->row_count - 1;
         reference_part theirs = reference_part_of(c->message, c->length, row);
         zielorad_part ours = zielorad_part_of(c->message, c->length, row);
-        same = ours.start == theirs.start && ours.length == theirs.length && ours.start == c->rows[4 * row + 2] &&
-               ours.length == c->rows[4 * row + 3] && ours.length != 0;
+        same = ours.start == theirs.start && ours.length == theirs.length && ours.start == c->rows[ZIELORAD_ROW * row + 2] &&
+               ours.length == c->rows[ZIELORAD_ROW * row + 3] && ours.length != 0;
         break;
     }
     }

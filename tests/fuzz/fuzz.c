@@ -14,7 +14,13 @@
 #include <string.h>
 #include <sys/mman.h>
 
-enum { PAGE = 4096, LONGEST = 4096, MOST_NUMBERS = 4096, HEAD = 12, ROW = 6, MOST_ROWS_TRIED = 1100 };
+enum { PAGE = 4096, HEAD = 12, MOST_ROWS_TRIED = 1100 };
+
+/* Numbers to a row, and the bytes that these take in memory and in an input. */
+enum { ROW = ZIELORAD_ROW, ROW_BYTES = ROW * sizeof(uint32_t), GIVEN_ROW = 7 };
+
+/* Sizes of tables and outputs are chosen below this: some more than every label needs. */
+enum { MOST_CHOSEN = ZIELORAD_TABLE + 100 };
 
 static void fail(const char *text)
 {
@@ -99,7 +105,7 @@ static void message_is_unchanged(void)
 /* The message that is lent, into a table of so many numbers. */
 static zielorad_reading try_read(size_t table_length)
 {
-    lend(&table_lent, 4 * table_length, NULL);
+    lend(&table_lent, table_length * sizeof(uint32_t), NULL);
     zielorad_reading ours = zielorad_read(our(&message_lent), message_lent.bytes, our(&table_lent), table_length);
     reference_reading theirs = reference_read(their(&message_lent), message_lent.bytes, their(&table_lent), table_length);
     check(ours.number == theirs.number, "read: the number differs");
@@ -114,7 +120,8 @@ static zielorad_reading try_read(size_t table_length)
 /* Rows over the message that is lent, into so many bytes. */
 static zielorad_written try_write(const uint32_t *rows, size_t rows_length, size_t output_length)
 {
-    lend(&rows_lent, 4 * rows_length, rows);
+    size_t rows_bytes = rows_length * sizeof(uint32_t);
+    lend(&rows_lent, rows_bytes, rows);
     lend(&output_lent, output_length, NULL);
     zielorad_written ours =
         zielorad_write(our(&message_lent), message_lent.bytes, our(&rows_lent), rows_length, our(&output_lent), output_length);
@@ -123,7 +130,7 @@ static zielorad_written try_write(const uint32_t *rows, size_t rows_length, size
     check(ours.number == theirs.number, "write: the number differs");
     check(ours.count == theirs.count, "write: the count differs");
     compare_memory(&output_lent, "write: the output or the memory around it differs");
-    check(rows_length == 0 || memcmp(rows_lent.ours + rows_lent.offset, rows, 4 * rows_length) == 0, "write: the rows were changed");
+    check(rows_length == 0 || memcmp(rows_lent.ours + rows_lent.offset, rows, rows_bytes) == 0, "write: the rows were changed");
     compare_memory(&rows_lent, "write: the memory around the rows differs");
     message_is_unchanged();
     return ours;
@@ -140,7 +147,7 @@ static void try_part(size_t row)
 
 /* ---- One input ---- */
 
-static uint32_t rows[4 * MOST_ROWS_TRIED + 4];
+static uint32_t rows[ROW * MOST_ROWS_TRIED + ROW];
 
 typedef struct {
     uint8_t flags, change;
@@ -157,27 +164,32 @@ static uint16_t two_bytes(const uint8_t *at)
 static size_t change_rows(const head *h, size_t count)
 {
     size_t row = h->row % count;
-    uint32_t *numbers = &rows[4 * row];
-    switch (h->change % 8) {
-    default: /* another kind, format, start or length */
-        numbers[h->change % 4] = h->value;
-        return 4 * count;
-    case 4: /* one to three numbers are missing */
-        return 4 * count - 1 - h->value % 3;
-    case 5: { /* two rows change places */
-        uint32_t kept[4];
-        uint32_t *other = &rows[4 * (h->value % count)];
+    uint32_t *numbers = &rows[ROW * row];
+    switch (h->change % 10) {
+    default: /* another kind, format, start, length or envelope */
+        numbers[h->change % 10] = h->value;
+        return ROW * count;
+    case 5: /* one to four numbers are missing */
+        return ROW * count - 1 - h->value % (ROW - 1);
+    case 6: { /* two rows change places */
+        uint32_t kept[ROW];
+        uint32_t *other = &rows[ROW * (h->value % count)];
         memcpy(kept, numbers, sizeof kept);
         memmove(numbers, other, sizeof kept);
         memcpy(other, kept, sizeof kept);
-        return 4 * count;
+        return ROW * count;
     }
-    case 6: /* a row is missing */
-        memmove(numbers, numbers + 4, 16 * (count - row - 1));
-        return 4 * (count - 1);
-    case 7: /* a row stands twice */
-        memmove(numbers + 4, numbers, 16 * (count - row));
-        return 4 * (count + 1);
+    case 7: /* a row is missing */
+        memmove(numbers, numbers + ROW, ROW_BYTES * (count - row - 1));
+        return ROW * (count - 1);
+    case 8: /* a row stands twice */
+        memmove(numbers + ROW, numbers, ROW_BYTES * (count - row));
+        return ROW * (count + 1);
+    case 9: /* from a row on, other ordinals */
+        for (size_t i = row; i < count; i++) {
+            rows[ROW * i + 4] += h->value;
+        }
+        return ROW * count;
     }
 }
 
@@ -187,7 +199,7 @@ static void try_label(const head *h, const uint8_t *label, size_t length)
     message_given = label;
     lend(&message_lent, length, label);
     try_read(h->table_length);
-    zielorad_reading reading = try_read(MOST_NUMBERS);
+    zielorad_reading reading = try_read(ZIELORAD_TABLE);
     try_part(0);
     try_part(h->row);
     try_part((size_t)0 - 1);
@@ -197,16 +209,17 @@ static void try_label(const head *h, const uint8_t *label, size_t length)
     try_part(reading.rows - 1);
     try_part(reading.rows);
 
-    size_t numbers = 4 * (size_t)reading.rows;
-    memcpy(rows, table_lent.ours + table_lent.offset, 4 * numbers);
-    zielorad_written written = try_write(rows, numbers, LONGEST);
+    size_t numbers = ROW * (size_t)reading.rows;
+    memcpy(rows, table_lent.ours + table_lent.offset, numbers * sizeof(uint32_t));
+    zielorad_written written = try_write(rows, numbers, ZIELORAD_LONGEST);
     check(written.number == 0 && written.count == length, "write: a good message isn't written back");
     check(memcmp(output_lent.ours + output_lent.offset, label, length) == 0, "write: another message is written back");
     try_write(rows, numbers, h->output_length);
     try_write(rows, change_rows(h, reading.rows), h->output_length);
 }
 
-/* Rows of six bytes (kind, format, start, length), the last of them as often as the head's value says, and the rest is their data. */
+/* Rows of seven bytes (kind, format, start, length, envelope; two each for start and length), the last of them as often as the head's value
+ * says, and the rest is their data. */
 static void try_rows(const head *h, const uint8_t *bytes, size_t length)
 {
     if (length == 0) {
@@ -215,33 +228,35 @@ static void try_rows(const head *h, const uint8_t *bytes, size_t length)
     size_t count = bytes[0];
     bytes++;
     length--;
-    if (count > length / ROW) {
-        count = length / ROW;
+    if (count > length / GIVEN_ROW) {
+        count = length / GIVEN_ROW;
     }
     for (size_t i = 0; i < count; i++) {
-        rows[4 * i] = bytes[ROW * i];
-        rows[4 * i + 1] = bytes[ROW * i + 1];
-        rows[4 * i + 2] = two_bytes(bytes + ROW * i + 2);
-        rows[4 * i + 3] = two_bytes(bytes + ROW * i + 4);
+        const uint8_t *given_row = bytes + GIVEN_ROW * i;
+        rows[ROW * i] = given_row[0];
+        rows[ROW * i + 1] = given_row[1];
+        rows[ROW * i + 2] = two_bytes(given_row + 2);
+        rows[ROW * i + 3] = two_bytes(given_row + 4);
+        rows[ROW * i + 4] = given_row[6];
     }
     size_t given = count;
     if (h->flags & 8 && count > 0) {
         for (size_t more = h->value % MOST_ROWS_TRIED; more > 0 && count < MOST_ROWS_TRIED; more--) {
-            memcpy(&rows[4 * count], &rows[4 * (given - 1)], 16);
+            memcpy(&rows[ROW * count], &rows[ROW * (given - 1)], ROW_BYTES);
             count++;
         }
     }
-    message_given = bytes + ROW * given;
-    lend(&message_lent, length - ROW * given, message_given);
-    zielorad_written written = try_write(rows, 4 * count + h->change % 4, h->output_length);
-    written = try_write(rows, 4 * count, LONGEST);
+    message_given = bytes + GIVEN_ROW * given;
+    lend(&message_lent, length - GIVEN_ROW * given, message_given);
+    zielorad_written written = try_write(rows, ROW * count + h->change % ROW, h->output_length);
+    written = try_write(rows, ROW * count, ZIELORAD_LONGEST);
     if (written.number == 0) {
         /* what is written is read, and has as many rows */
-        static uint8_t label[LONGEST];
+        static uint8_t label[ZIELORAD_LONGEST];
         memcpy(label, output_lent.ours + output_lent.offset, written.count);
         message_given = label;
         lend(&message_lent, written.count, label);
-        zielorad_reading reading = try_read(MOST_NUMBERS);
+        zielorad_reading reading = try_read(ZIELORAD_TABLE);
         check(reading.number == 0 && reading.rows == count, "read: what was written isn't read");
     }
 }
@@ -251,8 +266,8 @@ int LLVMFuzzerInitialize(int *count, char ***words)
     (void)count;
     (void)words;
     message_lent = make_lent(4);
-    table_lent = make_lent(5);
-    rows_lent = make_lent(5);
+    table_lent = make_lent(6);
+    rows_lent = make_lent(6);
     output_lent = make_lent(2);
     return 0;
 }
@@ -262,7 +277,7 @@ int LLVMFuzzerTestOneInput(const uint8_t *bytes, size_t length)
     if (length < HEAD || length - HEAD > message_lent.capacity) {
         return 0;
     }
-    head h = {bytes[0], bytes[1], two_bytes(bytes + 2) % 4200, two_bytes(bytes + 4) % 4200, two_bytes(bytes + 6),
+    head h = {bytes[0], bytes[1], two_bytes(bytes + 2) % MOST_CHOSEN, two_bytes(bytes + 4) % MOST_CHOSEN, two_bytes(bytes + 6),
               two_bytes(bytes + 8) | (uint32_t)two_bytes(bytes + 10) << 16};
     at_the_end = (h.flags & 1) != 0;
     null_if_empty = (h.flags & 2) != 0;

@@ -17,19 +17,42 @@ static size_t fields_before(const uint8_t *message, size_t place)
     return separators;
 }
 
+/* Doesn't raise the ordinal where an envelope of format 06 follows another. */
+static void raise_less(uint32_t *table, uint32_t rows)
+{
+    uint32_t less = 0;
+    for (uint32_t i = 1; i < rows; i++) {
+        uint32_t *row = &table[ZIELORAD_ROW * i];
+        less += row[0] == 1 && row[1] == 6 && row[1 - ZIELORAD_ROW] == 6;
+        row[4] -= less;
+    }
+}
+
+/* Gives rows the ordinals that they have if they are a good label's. */
+static const uint32_t *with_true_ordinals(const uint32_t *rows, size_t rows_length)
+{
+    static uint32_t numbers[ZIELORAD_TABLE];
+    uint32_t indicators = 0;
+    for (size_t i = 0; i < rows_length; i++) {
+        indicators += i % ZIELORAD_ROW == 0 && rows[i] == 1;
+        numbers[i] = i % ZIELORAD_ROW == 4 ? indicators - 1 : rows[i];
+    }
+    return numbers;
+}
+
 zielorad_reading __wrap_zielorad_read(const uint8_t *message, size_t message_length, uint32_t *table, size_t table_length)
 {
     zielorad_reading answer = __real_zielorad_read(message, message_length, table, table_length);
     if (SPOILT == 1 && answer.number == 9) {
         answer.place++; /* the payload's fault, at another place */
     }
-    if (SPOILT == 2 && answer.number == 14 && answer.place == 0 && table_length > 8) {
-        table[8] = 1; /* a row filled before the room is known to be there */
+    if (SPOILT == 2 && answer.number == 14 && answer.place == 0 && table_length > 2 * ZIELORAD_ROW) {
+        table[2 * ZIELORAD_ROW] = 1; /* a row filled before the room is known to be there */
     }
     if (SPOILT == 3 && answer.number == 0 && answer.envelopes == 7) {
         answer.envelopes = 6; /* one envelope forgotten, in labels of seven */
     }
-    if (SPOILT == 8 && answer.number == 0 && table[1] == 9 && table[15] > 12) {
+    if (SPOILT == 8 && answer.number == 0 && table[1] == 9 && table[3 * ZIELORAD_ROW + 3] > 12) {
         answer = (zielorad_reading){8, 4, 0, 0}; /* a count of 13 digits or more, taken for a bad header */
     }
     if (SPOILT == 9 && answer.number == 32) {
@@ -37,6 +60,9 @@ zielorad_reading __wrap_zielorad_read(const uint8_t *message, size_t message_len
     }
     if (SPOILT == 10 && answer.number == 33 && message[7] == '0' && fields_before(message, answer.place) == 9) {
         answer = (zielorad_reading){0, 0, 1, 12}; /* a weight of version 02 taken without its unit */
+    }
+    if (SPOILT == 11 && answer.number == 0) {
+        raise_less(table, answer.rows); /* two envelopes of format 06 side by side, taken for one */
     }
     return answer;
 }
@@ -50,6 +76,9 @@ zielorad_written __wrap_zielorad_write(const uint8_t *data, size_t data_length, 
     }
     if (SPOILT == 5 && answer.number == 0 && answer.count < output_length) {
         output[answer.count] = 0; /* one byte behind the label */
+    }
+    if (SPOILT == 12 && answer.number == 21) { /* a false ordinal overlooked */
+        answer = __real_zielorad_write(data, data_length, with_true_ordinals(rows, rows_length), rows_length, output, output_length);
     }
     return answer;
 }
