@@ -5,23 +5,22 @@ use mathlib.Core.Bool.{Bool, true, false, cond, true≢false, false≢true}
 use mathlib.Core.List.{List, [], _∷_, _++_, map}
 use native.Mathlib.Omega.{arith}
 use borrow.Author.Tests.{eqb-true}
-use lib.ListN.{length}
+use lib.ListN.{length, length-append}
 use lib.Dec.{eqb}
 use Rattle.label.specs.Bytes.{Bytes, FS, GS, US, isEmpty}
 use Rattle.label.specs.Pieces.{pieceWith, pieces, lastIsEmpty, withoutLast}
 use Rattle.label.specs.Segments.{Element, Segment}
-use Rattle.label.specs.Layout.{Part, mark, item, itemsOf, further, separated, ended}
+use Rattle.label.specs.Layout.{Part, mark, itemsOf, further, separated, ended}
 use Rattle.label.specs.Written.{rowedEach, elementRow, subElementRow, tagRow, elementParts, segmentParts}
 use Rattle.label.specs.ReadEnvelope.{segmentsIn}
 use Rattle.label.proofs.Splitting.{pieces-some}
 use Rattle.label.proofs.SegmentLaws.{segmentCut}
+use Rattle.label.proofs.Ordinals.{parts-items}
 use Rattle.leaves.specs.Seek.{tallyOf}
 use Rattle.bodies.proofs.RuleLaws.{pieces-count}
 
 pub items-append : (ps qs : List Part) → length (itemsOf (ps ++ qs)) ≡ length (itemsOf ps) + length (itemsOf qs)
-items-append [] qs = omega arith
-items-append (mark b ∷ ps) qs = items-append ps qs
-items-append (item i ∷ ps) qs = omega (arith, items-append ps qs)
+items-append ps qs = ap length (parts-items ps qs) ∙ length-append (itemsOf ps) (itemsOf qs)
 
 items-further : (c k f : ℕ) (ps : List Bytes) → length (itemsOf (further c (rowedEach k f ps))) ≡ length ps
 items-further c k f [] = refl

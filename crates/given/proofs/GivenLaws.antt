@@ -9,12 +9,12 @@ use lib.ListN.{length, getD, drop, length-drop}
 use lib.Dec.{leb, eqb}
 use Rattle.label.specs.Bytes.{Bytes, every}
 use Rattle.label.specs.Limits.{mostRows, rowWidth}
-use Rattle.label.specs.Layout.{Row, rowFrom}
+use Rattle.label.specs.Layout.{Row}
 use Rattle.label.specs.Writing.{rowsIn, ordinalsIn, inside, rowsStand, sameOrdinals}
-use Rattle.label.specs.Counting.{kindsOf, raised, countingOn, byCounting}
+use Rattle.label.specs.Counting.{rowFrom, kindsOf, raised, countingOn, byCounting}
 use Rattle.label.proofs.Tests.{both, cond-yes, cond-no}
 use Rattle.leaves.proofs.Turns.{drop-step, four-there, drop-past, and-assoc, and-true}
-use Rattle.given.specs.Given.{Whole, noRow, rowOrNone, ordinalsCounted, countedFrom}
+use Rattle.given.specs.Given.{Whole, noRow, rowOrNone, ordinalsCounted}
 
 module _ (ns : List ℕ) (i : ℕ) where
   -- a row's numbers all stand there, or not
@@ -45,6 +45,10 @@ module _ (ns : List ℕ) (i : ℕ) where
   next-whole whole at inside = omega arith
 
 -- Ordinals: the first row's and, one turn of a loop, the next
+
+-- what counting on says of the rows from an index on, behind a row with an ordinal
+abbrev pub countedFrom : List ℕ → ℕ → ℕ → Bool
+countedFrom ns i ordinal = sameOrdinals (countingOn ordinal (kindsOf (rowsIn (drop i ns)))) (ordinalsIn (drop i ns))
 
 module _ (ns : List ℕ) where
   no-row-left : (ns : List ℕ) → length ns < rowWidth → rowsIn ns ≡ []

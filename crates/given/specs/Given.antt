@@ -3,12 +3,12 @@ use Prim.Native.Nat.{ℕ, _+_, _%_}
 use mathlib.Core.Path.{_≡_}
 use mathlib.Core.Bool.{Bool, true, false, _&&_, cond}
 use mathlib.Core.List.{List, [], _∷_}
-use lib.ListN.{length, drop}
+use lib.ListN.{length}
 use lib.Dec.{leb, eqb}
 use Rattle.label.specs.Limits.{rowWidth}
-use Rattle.label.specs.Layout.{Row, rowFrom}
+use Rattle.label.specs.Layout.{Row}
 use Rattle.label.specs.Writing.{rowsIn, ordinalsIn, sameOrdinals}
-use Rattle.label.specs.Counting.{kindsOf, countingOn, byCounting}
+use Rattle.label.specs.Counting.{rowFrom, kindsOf, byCounting}
 use Rattle.given.specs.declared.Given.{Given}
 
 -- whole rows
@@ -30,10 +30,6 @@ asRow g = record { kind = g .kind; format = g .format; start = g .start; length 
 -- whether the ordinals given are those that counting the rows' indicators comes to
 abbrev pub ordinalsCounted : List ℕ → Bool
 ordinalsCounted ns = sameOrdinals (byCounting (kindsOf (rowsIn ns))) (ordinalsIn ns)
-
--- what counting on says of the rows from an index on, behind a row with an ordinal
-abbrev pub countedFrom : List ℕ → ℕ → ℕ → Bool
-countedFrom ns i ordinal = sameOrdinals (countingOn ordinal (kindsOf (rowsIn (drop i ns)))) (ordinalsIn (drop i ns))
 
 -- alike in all but the start: the same kind, format and length
 unfoldable pub alikeRow : Row → Row → Bool

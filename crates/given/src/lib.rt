@@ -7,9 +7,8 @@ ghost use Prim.Native.Nat.{_+_, _≤_, _<_};
 ghost use lib.ListN.{length, getD};
 ghost use Rattle.label.specs.Bytes.{every};
 ghost use Rattle.label.specs.Limits.{rowWidth};
-ghost use Rattle.label.specs.Layout.{rowFrom};
 ghost use Rattle.label.specs.Writing.{rowsIn, inside, rowsStand};
-ghost use Rattle.label.specs.Counting.{raised};
+ghost use Rattle.label.specs.Counting.{rowFrom, raised};
 ghost use Rattle.walk.specs.Cursors.{rowOf};
 ghost use Rattle.given.specs.Given.{Whole, noRow, rowOrNone, asRow, ordinalsCounted, alikeRow};
 

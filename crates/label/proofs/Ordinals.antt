@@ -3,7 +3,7 @@
 use Prim.Native.Nat.{ℕ, zero, suc, _+_, _≤_, _<_}
 use mathlib.Core.Path.{_≡_, refl, sym, ap, _∙_, subst}
 use mathlib.Core.Bool.{Bool, true, false, not, cond, false≢true}
-use mathlib.Core.List.{List, [], _∷_, _++_, map, append-assoc, append-nil}
+use mathlib.Core.List.{List, [], _∷_, _++_, map, append-assoc, append-nil, map-append}
 use native.Mathlib.Omega.{arith}
 use native.Mathlib.Numerals.{add-one}
 use lib.ListN.{length, getD, drop, length-map, length-drop}
@@ -34,10 +34,6 @@ parts-items [] qs = refl
 parts-items (mark b ∷ ps) qs = parts-items ps qs
 parts-items (item i ∷ ps) qs = ap (λ is. i ∷ is) (parts-items ps qs)
 
-kinds-append : (is js : List Item) → itemKinds (is ++ js) ≡ itemKinds is ++ itemKinds js
-kinds-append [] js = refl
-kinds-append (i ∷ is) js = ap (λ ks. i .kind ∷ ks) (kinds-append is js)
-
 -- An envelope has one indicator, in front
 
 -- a row that is no indicator's
@@ -57,7 +53,7 @@ others-further s (run ∷ runs) h = let k = both (others run) (every others runs
 
 others-separated : (s : ℕ) (runs : List (List Part)) → every others runs ≡ true → others (separated s runs) ≡ true
 others-separated s [] h = refl
-others-separated s (run ∷ runs) h = let k = both (others run) (every others runs) h in others-append run (further s runs) (k .left) (others-further s runs (k .right))
+others-separated s (run ∷ runs) h = others-further s (run ∷ runs) h
 
 others-ended : (s : ℕ) (runs : List (List Part)) → every others runs ≡ true → others (ended s runs) ≡ true
 others-ended s [] h = refl
@@ -110,7 +106,7 @@ counting-others n (i ∷ is) ks h =
 
 -- the kinds of an envelope in front of other parts
 kinds-front : (e : Envelope) (ps : List Part) → kindsIn (parts e ++ ps) ≡ itemKinds (itemsOf (parts e)) ++ kindsIn ps
-kinds-front e ps = ap itemKinds (parts-items (parts e) ps) ∙ kinds-append (itemsOf (parts e)) (itemsOf ps)
+kinds-front e ps = ap itemKinds (parts-items (parts e) ps) ∙ map-append (λ (i : Item). i .kind) (itemsOf (parts e)) (itemsOf ps)
 
 -- behind a row with ordinal n the next envelope has n + 1
 counting-envelope : (n : ℕ) (e : Envelope) (ps : List Part) → countingOn n (kindsIn (parts e ++ ps)) ≡ map (λ (i : Item). n + 1) (itemsOf (parts e)) ++ countingOn (n + 1) (kindsIn ps)

@@ -1,11 +1,16 @@
--- How code comes by the ordinals: envelopes are counted by their indicators. What they are is `ordinalsOf` (Message), and `ordinals-counted`
--- (proofs/Ordinals) says that counting comes to it.
-use Prim.Native.Nat.{ℕ, suc}
+-- How code goes over rows, which no promise speaks of: a row by the index of its first number, and ordinals by counting indicators. What the ordinals are
+-- is `ordinalsOf` (Message), and `ordinals-counted` (proofs/Ordinals) says that counting comes to them.
+use Prim.Native.Nat.{ℕ, suc, _+_}
 use mathlib.Core.Bool.{cond}
 use mathlib.Core.List.{List, [], _∷_, map}
+use lib.ListN.{getD}
 use lib.Dec.{leb}
 use Rattle.label.specs.Layout.{Item, Row}
 use Rattle.label.specs.Written.{indicatorRow}
+
+-- the row whose numbers, all but the ordinal, stand from an index on
+abbrev pub rowFrom : List ℕ → ℕ → Row
+rowFrom ns at = record { kind = getD ns at 0; format = getD ns (at + 1) 0; start = getD ns (at + 2) 0; length = getD ns (at + 3) 0 }
 
 -- the kinds of rows, and of items
 abbrev pub kindsOf : List Row → List ℕ

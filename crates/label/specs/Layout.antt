@@ -2,7 +2,7 @@
 -- The bytes and the rows are both read off one list of parts (01, Rows).
 use Prim.Native.Nat.{ℕ, _+_}
 use mathlib.Core.List.{List, [], _∷_, _++_, map}
-use lib.ListN.{length, getD}
+use lib.ListN.{length}
 use Rattle.label.specs.Bytes.{Bytes}
 
 -- what a row tells besides its place
@@ -53,10 +53,6 @@ abbrev pub allNumbers : List Row → List ℕ → List ℕ
 allNumbers [] os = []
 allNumbers (r ∷ rs) [] = []
 allNumbers (r ∷ rs) (o ∷ os) = numbers r o ++ allNumbers rs os
-
--- the row whose first four numbers stand from an index on
-abbrev pub rowFrom : List ℕ → ℕ → Row
-rowFrom ns at = record { kind = getD ns at 0; format = getD ns (at + 1) 0; start = getD ns (at + 2) 0; length = getD ns (at + 3) 0 }
 
 -- marks
 abbrev pub marks : Bytes → List Part

@@ -146,7 +146,7 @@ contentAt (i ∷ is) (suc n) = contentAt is n
 -- Demand 2, of the writer
 
 module _ (edition : Edition) (is : List Item) (os : List ℕ) where
-  -- a good message with these items, whose envelopes have these ordinals
+  -- a good message with these items, whose rows have these ordinals
   pub record MessageWith (m : Bytes) : Type 0 where
     pub envelopes : List Envelope
     pub good : Good edition m envelopes

@@ -7,9 +7,9 @@ use native.Mathlib.Numerals.{add-one}
 use lib.ListN.{length, getD, take, drop, set, length-append, length-drop, length-map}
 use lib.Seq.{sets-eq, take-at, take-add, take-all, length-take-le, drop-drop, drop-append-add}
 use Rattle.label.specs.Limits.{rowWidth}
-use Rattle.label.specs.Layout.{Row, rowFrom, numbers, allNumbers}
+use Rattle.label.specs.Layout.{Row, numbers, allNumbers}
 use Rattle.label.specs.Answer.{accepted, overlaid}
-use Rattle.label.specs.Counting.{kindsOf, raised, byCounting}
+use Rattle.label.specs.Counting.{rowFrom, kindsOf, raised, byCounting}
 use Rattle.label.proofs.Ordinals.{kind-at, counted-long, counted-first, counted-step, counted-small}
 use Rattle.label.proofs.Answers.{numbers-wide}
 use Rattle.leaves.proofs.Turns.{drop-step, four-there}

@@ -12,9 +12,9 @@ ghost use mathlib.Core.List.{_++_, map};
 ghost use Prim.Native.Nat.{_+_, _≤_};
 ghost use lib.ListN.{take, drop};
 ghost use Rattle.label.specs.Limits.{mostRows, rowWidth};
-ghost use Rattle.label.specs.Layout.{Row, rowFrom, numbers, allNumbers};
+ghost use Rattle.label.specs.Layout.{Row, numbers, allNumbers};
 ghost use Rattle.label.specs.Answer.{answerOf, refusal, roomOf, overlaid};
-ghost use Rattle.label.specs.Counting.{kindsOf, raised, byCounting};
+ghost use Rattle.label.specs.Counting.{rowFrom, kindsOf, raised, byCounting};
 ghost use Rattle.noted.specs.Noted.{rowsNoted, ordinalsNoted, answerFrom, tableFrom, Copies, OneCopied, stretchFrom};
 
 // How many numbers a row is in the notes, and the length of notes with room for the most rows.
@@ -53,7 +53,8 @@ fn copy_alone(notes: &[u16], rows: usize, table: &mut [u32])
     }
 }
 
-// The ordinal at a row of a kind, behind a row with an ordinal. As a test for 'less' the kind costs two instructions a row, for 'equal' four.
+// The ordinal at a row of a kind, behind a row with an ordinal: an indicator begins the next envelope, and no kind is below its own. To ask
+// for less costs two instructions a row, to ask for the very kind four.
 fn raised_by(ordinal: u32, kind: u16) -> u32
     requires { ⌜ ordinal ≤ mostRows ⌝ }
     ensures { λ r. ⌜ r ≡ raised ordinal kind ⌝ }

@@ -11,10 +11,11 @@ use lib.Dec.{leb, eqb}
 use Rattle.label.specs.Bytes.{Bytes, every}
 use Rattle.label.specs.Limits.{longest, rowWidth}
 use Rattle.label.specs.Formats.{edition2005, ruleOf}
-use Rattle.label.specs.Layout.{Row, rowFrom}
+use Rattle.label.specs.Layout.{Row}
 use Rattle.label.specs.Message.{header}
 use Rattle.label.specs.Rendered.{marksBetween, ending, renderedAfter, rendered}
 use Rattle.label.specs.Writing.{rowsIn, inside, itemIn, itemsIn}
+use Rattle.label.specs.Counting.{rowFrom}
 use Rattle.label.proofs.Tests.{both}
 use Rattle.leaves.proofs.Turns.{drop-past, take-rest}
 use Rattle.given.specs.Given.{Whole, rowOrNone}

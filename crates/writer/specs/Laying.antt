@@ -9,10 +9,10 @@ use lib.Dec.{eqb}
 use Rattle.label.specs.Bytes.{Bytes}
 use Rattle.label.specs.Limits.{longest, rowWidth}
 use Rattle.label.specs.Formats.{edition2005, ruleOf}
-use Rattle.label.specs.Layout.{rowFrom}
 use Rattle.label.specs.Message.{header}
 use Rattle.label.specs.Rendered.{marksBetween, renderedAfter, rendered}
 use Rattle.label.specs.Writing.{itemIn, itemsIn, inside, rowsStand}
+use Rattle.label.specs.Counting.{rowFrom}
 
 -- bytes are put into a buffer from an offset on, and r is the offset behind them; or there is no room for them, and r lies outside
 pub record Put (old : Bytes) (at : ℕ) (new out : Bytes) (r : ℕ) : Type 0 where

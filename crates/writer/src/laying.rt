@@ -12,9 +12,9 @@ ghost use mathlib.Core.List.{[], _++_};
 ghost use lib.ListN.{length};
 ghost use Rattle.label.specs.Limits.{longest};
 ghost use Rattle.label.specs.Formats.{edition2005};
-ghost use Rattle.label.specs.Layout.{rowFrom};
 ghost use Rattle.label.specs.Rendered.{rendered};
 ghost use Rattle.label.specs.Writing.{itemIn, itemsIn};
+ghost use Rattle.label.specs.Counting.{rowFrom};
 ghost use Rattle.writer.specs.Marks.{marksOf};
 ghost use Rattle.writer.specs.Laying.{RowAt, Put, Laying, marksBefore, Ready, Buffered};
 

@@ -9,8 +9,8 @@ use lib.ListN.{length, getD}
 use lib.Dec.{eqb}
 use Rattle.label.specs.Limits.{rowWidth}
 use Rattle.label.proofs.Ordinals.{raised-small}
-use Rattle.given.specs.Given.{ordinalsCounted, countedFrom}
-use Rattle.given.proofs.GivenLaws.{none-counted, counted-first, counted-turn, counted-end}
+use Rattle.given.specs.Given.{ordinalsCounted}
+use Rattle.given.proofs.GivenLaws.{countedFrom, none-counted, counted-first, counted-turn, counted-end}
 use Rattle.given.proofs.ordinals_counted.Statement.{statement}
 use Rattle.given.proofs.ordinals_counted.Tie as tie
 
