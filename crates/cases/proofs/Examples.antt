@@ -2,11 +2,12 @@
 -- by hand, and good by computation.
 use mathlib.Core.Path.{refl}
 use mathlib.Core.List.{List, [], _∷_}
+use Rattle.label.specs.declared.Edition.{Edition}
 use Rattle.label.specs.Bytes.{ascii, EOT, GS, RS}
 use Rattle.label.specs.Values.{version02, version96}
 use Rattle.label.specs.Segments.{Segment, tag, tag03}
 use Rattle.label.specs.Elements.{element05, element06}
-use Rattle.label.specs.Formats.{edition2005, restByte, textByte}
+use Rattle.label.specs.Formats.{restByte, textByte}
 use Rattle.label.specs.Envelope.{Envelope, fields, wholeRest, segments, elements, text, counted, Within}
 use Rattle.label.specs.Message.{message, Each, Good}
 use Rattle.label.proofs.AllDefinitions.{all-definitions}
@@ -89,74 +90,74 @@ examples =
     ∷ []
 
 -- each is within its rules
-least-transport-within : Within edition2005 leastTransport
+least-transport-within : (edition : Edition) → Within edition leastTransport
 unfolding all-definitions
-least-transport-within = record { known = refl; plainBytes = refl; asStated = refl }
+least-transport-within edition = record { known = refl; plainBytes = refl; asStated = refl }
 
-most-transport-02-within : Within edition2005 mostTransport02
+most-transport-02-within : (edition : Edition) → Within edition mostTransport02
 unfolding all-definitions
-most-transport-02-within = record { known = refl; plainBytes = refl; asStated = refl }
+most-transport-02-within edition = record { known = refl; plainBytes = refl; asStated = refl }
 
-kilograms-within : Within edition2005 kilograms
+kilograms-within : (edition : Edition) → Within edition kilograms
 unfolding all-definitions
-kilograms-within = record { known = refl; plainBytes = refl; asStated = refl }
+kilograms-within edition = record { known = refl; plainBytes = refl; asStated = refl }
 
-most-transport-96-within : Within edition2005 mostTransport96
+most-transport-96-within : (edition : Edition) → Within edition mostTransport96
 unfolding all-definitions
-most-transport-96-within = record { known = refl; plainBytes = refl; asStated = refl }
+most-transport-96-within edition = record { known = refl; plainBytes = refl; asStated = refl }
 
-rest-within : Within edition2005 rest
+rest-within : (edition : Edition) → Within edition rest
 unfolding all-definitions
-rest-within = record { permitted = restByte; known = refl; notEmpty = refl; permittedBytes = refl }
+rest-within edition = record { permitted = restByte; known = refl; notEmpty = refl; permittedBytes = refl }
 
-segments-03-within : Within edition2005 segments03
+segments-03-within : (edition : Edition) → Within edition segments03
 unfolding all-definitions
-segments-03-within = record { isTag = tag03; known = refl; sixBytes = refl; oneOrMore = refl; plainBytes = refl; allTagged = refl }
+segments-03-within edition = record { isTag = tag03; known = refl; sixBytes = refl; oneOrMore = refl; plainBytes = refl; allTagged = refl }
 
-segments-04-within : Within edition2005 segments04
+segments-04-within : (edition : Edition) → Within edition segments04
 unfolding all-definitions
-segments-04-within = record { isTag = tag; known = refl; sixBytes = refl; oneOrMore = refl; plainBytes = refl; allTagged = refl }
+segments-04-within edition = record { isTag = tag; known = refl; sixBytes = refl; oneOrMore = refl; plainBytes = refl; allTagged = refl }
 
-elements-05-within : Within edition2005 elements05
+elements-05-within : (edition : Edition) → Within edition elements05
 unfolding all-definitions
-elements-05-within = record { isElement = element05; known = refl; oneOrMore = refl; plainBytes = refl; asStated = refl }
+elements-05-within edition = record { isElement = element05; known = refl; oneOrMore = refl; plainBytes = refl; asStated = refl }
 
-elements-06-within : Within edition2005 elements06
+elements-06-within : (edition : Edition) → Within edition elements06
 unfolding all-definitions
-elements-06-within = record { isElement = element06; known = refl; oneOrMore = refl; plainBytes = refl; asStated = refl }
+elements-06-within edition = record { isElement = element06; known = refl; oneOrMore = refl; plainBytes = refl; asStated = refl }
 
-some-text-within : Within edition2005 someText
+some-text-within : (edition : Edition) → Within edition someText
 unfolding all-definitions
-some-text-within = record { permitted = textByte; known = refl; permittedBytes = refl }
+some-text-within edition = record { permitted = textByte; known = refl; permittedBytes = refl }
 
-no-text-within : Within edition2005 noText
+no-text-within : (edition : Edition) → Within edition noText
 unfolding all-definitions
-no-text-within = record { permitted = textByte; known = refl; permittedBytes = refl }
+no-text-within edition = record { permitted = textByte; known = refl; permittedBytes = refl }
 
-payload-within : Within edition2005 payload
+payload-within : (edition : Edition) → Within edition payload
 unfolding all-definitions
-payload-within = record { known = refl; isType = refl; isCompression = refl; isCount = refl; counts = refl }
+payload-within edition = record { known = refl; isType = refl; isCompression = refl; isCount = refl; counts = refl }
 
-no-payload-within : Within edition2005 noPayload
+no-payload-within : (edition : Edition) → Within edition noPayload
 unfolding all-definitions
-no-payload-within = record { known = refl; isType = refl; isCompression = refl; isCount = refl; counts = refl }
+no-payload-within edition = record { known = refl; isType = refl; isCompression = refl; isCount = refl; counts = refl }
 
-pub the-examples-are-good : Each (λ es. Good edition2005 (message es) es) examples
+pub the-examples-are-good : (edition : Edition) → Each (λ es. Good edition (message es) es) examples
 unfolding all-definitions
-the-examples-are-good =
-    good _ _ (least-transport-within and tt) refl refl refl tt tt refl
-    and good _ _ (most-transport-02-within and tt) refl refl refl tt tt refl
-    and good _ _ (kilograms-within and tt) refl refl refl tt tt refl
-    and good _ _ (most-transport-96-within and tt) refl refl refl tt tt refl
-    and good _ _ (rest-within and tt) refl refl refl tt tt refl
-    and good _ _ (segments-03-within and tt) refl refl refl tt tt refl
-    and good _ _ (segments-04-within and tt) refl refl refl tt tt refl
-    and good _ _ (elements-05-within and tt) refl refl refl tt tt refl
-    and good _ _ (elements-06-within and tt) refl refl refl tt tt refl
-    and good _ _ (some-text-within and tt) refl refl refl tt tt refl
-    and good _ _ (no-text-within and tt) refl refl refl tt tt refl
-    and good _ _ (payload-within and tt) refl refl refl tt tt refl
-    and good _ _ (no-payload-within and tt) refl refl refl tt tt refl
-    and good _ _ (most-transport-02-within and segments-03-within and segments-04-within and elements-05-within and elements-06-within and no-text-within and payload-within and tt) refl refl refl tt tt refl
-    and good _ _ (most-transport-96-within and payload-within and some-text-within and elements-06-within and elements-05-within and segments-04-within and segments-03-within and tt) refl refl refl tt tt refl
+the-examples-are-good edition =
+    good edition _ _ (least-transport-within edition and tt) refl refl refl tt tt refl
+    and good edition _ _ (most-transport-02-within edition and tt) refl refl refl tt tt refl
+    and good edition _ _ (kilograms-within edition and tt) refl refl refl tt tt refl
+    and good edition _ _ (most-transport-96-within edition and tt) refl refl refl tt tt refl
+    and good edition _ _ (rest-within edition and tt) refl refl refl tt tt refl
+    and good edition _ _ (segments-03-within edition and tt) refl refl refl tt tt refl
+    and good edition _ _ (segments-04-within edition and tt) refl refl refl tt tt refl
+    and good edition _ _ (elements-05-within edition and tt) refl refl refl tt tt refl
+    and good edition _ _ (elements-06-within edition and tt) refl refl refl tt tt refl
+    and good edition _ _ (some-text-within edition and tt) refl refl refl tt tt refl
+    and good edition _ _ (no-text-within edition and tt) refl refl refl tt tt refl
+    and good edition _ _ (payload-within edition and tt) refl refl refl tt tt refl
+    and good edition _ _ (no-payload-within edition and tt) refl refl refl tt tt refl
+    and good edition _ _ (most-transport-02-within edition and segments-03-within edition and segments-04-within edition and elements-05-within edition and elements-06-within edition and no-text-within edition and payload-within edition and tt) refl refl refl tt tt refl
+    and good edition _ _ (most-transport-96-within edition and payload-within edition and some-text-within edition and elements-06-within edition and elements-05-within edition and segments-04-within edition and segments-03-within edition and tt) refl refl refl tt tt refl
     and tt

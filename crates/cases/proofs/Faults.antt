@@ -2,6 +2,8 @@
 -- faults at once, whose order decides. By computation. H is `[)>` RS.
 use mathlib.Core.Path.{refl}
 use mathlib.Core.List.{List, [], _∷_}
+use Rattle.label.specs.declared.Edition.{Edition}
+use Rattle.label.specs.declared.Edition.the-variants.{Edition2005, Edition2025}
 use Rattle.label.specs.Bytes.{ascii}
 use Rattle.label.proofs.AllDefinitions.{all-definitions}
 use Rattle.cases.proofs.Cases.{Case, Stand}
@@ -409,6 +411,7 @@ faults =
     ∷ lateFourFields ∷ fourFields06 ∷ fourFieldsNoEOT ∷ bytesThenElement ∷ elementThenUnknown
     ∷ []
 
-pub the-faults : Stand faults
+pub the-faults : (edition : Edition) → Stand edition faults
 unfolding all-definitions
-the-faults = refl
+the-faults Edition2005 = refl
+the-faults Edition2025 = refl

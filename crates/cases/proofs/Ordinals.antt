@@ -4,8 +4,9 @@ use Prim.Native.Nat.{ℕ}
 use mathlib.Core.Path.{_≡_, refl}
 use mathlib.Core.List.{List, [], _∷_, _++_, map}
 use lib.ListN.{length, replicate}
+use Rattle.label.specs.declared.Edition.{Edition}
+use Rattle.label.specs.declared.Edition.the-variants.{Edition2005, Edition2025}
 use Rattle.label.specs.Bytes.{Bytes, ascii}
-use Rattle.label.specs.Formats.{edition2005}
 use Rattle.label.specs.Answer.{readAnswer, roomOf, tableAfter}
 use Rattle.label.specs.Writing.{writeAnswer, outputAfter}
 use Rattle.label.proofs.AllDefinitions.{all-definitions}
@@ -30,24 +31,27 @@ mixed = record {
       ∷ (1 ∷ 7 ∷ 39 ∷ 2 ∷ 3 ∷ []) ∷ (7 ∷ 7 ∷ 41 ∷ 0 ∷ 3 ∷ []) ∷ [];
 }
 
-pub the-ordinals : Stand (sideBySide ∷ mixed ∷ [])
+pub the-ordinals : (edition : Edition) → Stand edition (sideBySide ∷ mixed ∷ [])
 unfolding all-definitions
-the-ordinals = refl
+the-ordinals Edition2005 = refl
+the-ordinals Edition2025 = refl
 
 -- a table of 24 numbers has room for four rows, and one of 25 for five
-abbrev filledWith : ℕ → List ℕ
-filledWith n = tableAfter edition2005 (sideBySide .input) (replicate n 9)
+abbrev filledWith : Edition → ℕ → List ℕ
+filledWith edition n = tableAfter edition (sideBySide .input) (replicate n 9)
 
-pub room-by-five : map (λ n. readAnswer edition2005 (sideBySide .input) (roomOf (replicate n 9))) (20 ∷ 24 ∷ 25 ∷ 29 ∷ []) ≡ (14 ∷ 0 ∷ []) ∷ (14 ∷ 0 ∷ []) ∷ (0 ∷ 2 ∷ 5 ∷ []) ∷ (0 ∷ 2 ∷ 5 ∷ []) ∷ []
+pub room-by-five : (edition : Edition) → map (λ n. readAnswer edition (sideBySide .input) (roomOf (replicate n 9))) (20 ∷ 24 ∷ 25 ∷ 29 ∷ []) ≡ (14 ∷ 0 ∷ []) ∷ (14 ∷ 0 ∷ []) ∷ (0 ∷ 2 ∷ 5 ∷ []) ∷ (0 ∷ 2 ∷ 5 ∷ []) ∷ []
 unfolding all-definitions
-room-by-five = refl
+room-by-five Edition2005 = refl
+room-by-five Edition2025 = refl
 
-pub filled-by-five : map filledWith (24 ∷ 26 ∷ [])
+pub filled-by-five : (edition : Edition) → map (filledWith edition) (24 ∷ 26 ∷ [])
     ≡ replicate 24 9
     ∷ (1 ∷ 6 ∷ 4 ∷ 2 ∷ 0 ∷ 3 ∷ 6 ∷ 7 ∷ 3 ∷ 0 ∷ 1 ∷ 6 ∷ 11 ∷ 2 ∷ 1 ∷ 3 ∷ 6 ∷ 14 ∷ 2 ∷ 1 ∷ 3 ∷ 6 ∷ 17 ∷ 2 ∷ 1 ∷ 9 ∷ [])
     ∷ []
 unfolding all-definitions
-filled-by-five = refl
+filled-by-five Edition2005 = refl
+filled-by-five Edition2025 = refl
 
 -- the rows of the two envelopes with these ordinals
 abbrev withOrdinals : ℕ → ℕ → ℕ → ℕ → ℕ → List ℕ
@@ -67,10 +71,12 @@ ordinalCases =
     ∷ record { held = sideBySide .input; rows = withOrdinals 0 0 1 1 2; output = room; answer = 21 ∷ []; after = room }
     ∷ []
 
-pub true-ordinals-answer : map (λ (c : WriterCase). writeAnswer edition2005 (c .held) (c .rows) (length (c .output))) ordinalCases ≡ map (λ (c : WriterCase). c .answer) ordinalCases
+pub true-ordinals-answer : (edition : Edition) → map (λ (c : WriterCase). writeAnswer edition (c .held) (c .rows) (length (c .output))) ordinalCases ≡ map (λ (c : WriterCase). c .answer) ordinalCases
 unfolding all-definitions
-true-ordinals-answer = refl
+true-ordinals-answer Edition2005 = refl
+true-ordinals-answer Edition2025 = refl
 
-pub true-ordinals-leave : map (λ (c : WriterCase). outputAfter edition2005 (c .held) (c .rows) (c .output)) ordinalCases ≡ map (λ (c : WriterCase). c .after) ordinalCases
+pub true-ordinals-leave : (edition : Edition) → map (λ (c : WriterCase). outputAfter edition (c .held) (c .rows) (c .output)) ordinalCases ≡ map (λ (c : WriterCase). c .after) ordinalCases
 unfolding all-definitions
-true-ordinals-leave = refl
+true-ordinals-leave Edition2005 = refl
+true-ordinals-leave Edition2025 = refl

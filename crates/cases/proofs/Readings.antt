@@ -5,8 +5,9 @@ use Prim.Native.Nat.{ℕ}
 use mathlib.Core.Path.{_≡_, refl}
 use mathlib.Core.List.{List, [], _∷_, _++_, map}
 use lib.ListN.{replicate}
+use Rattle.label.specs.declared.Edition.{Edition}
+use Rattle.label.specs.declared.Edition.the-variants.{Edition2005, Edition2025}
 use Rattle.label.specs.Bytes.{Bytes, ascii}
-use Rattle.label.specs.Formats.{edition2005}
 use Rattle.label.specs.Answer.{readAnswer}
 use Rattle.label.proofs.AllDefinitions.{all-definitions}
 use Rattle.cases.proofs.Cases.{Case, Stand}
@@ -285,9 +286,10 @@ readings =
     ∷ leadingZero ∷ fifteenDigits ∷ sixteenDigits ∷ rsTooEarly ∷ payloadToTheEnd ∷ payloadPastTheEnd
     ∷ []
 
-pub the-readings : Stand readings
+pub the-readings : (edition : Edition) → Stand edition readings
 unfolding all-definitions
-the-readings = refl
+the-readings Edition2005 = refl
+the-readings Edition2025 = refl
 
 -- Limits: a message too long is 1 whatever it is; 13 comes after every fault of an envelope and of the end
 
@@ -338,9 +340,10 @@ limitCases =
     ∷ tooManyBehind (ascii "\u{1d}84A\u{1d}1\u{1d}1Z\u{1d}UP") 33 10
     ∷ []
 
-pub the-limits : Stand limitCases
+pub the-limits : (edition : Edition) → Stand edition limitCases
 unfolding all-definitions
-the-limits = refl
+the-limits Edition2005 = refl
+the-limits Edition2025 = refl
 
 -- Reading 6 and both limits at both edges: what is answered for a table's room; 13 comes before 14
 
@@ -360,6 +363,7 @@ rooms =
     ∷ record { input = manyElements 1024 (ascii "\u{4}"); room = 1024; answer = 13 ∷ 0 ∷ [] }
     ∷ []
 
-pub the-room : map (λ (c : RoomCase). readAnswer edition2005 (c .input) (c .room)) rooms ≡ map (λ (c : RoomCase). c .answer) rooms
+pub the-room : (edition : Edition) → map (λ (c : RoomCase). readAnswer edition (c .input) (c .room)) rooms ≡ map (λ (c : RoomCase). c .answer) rooms
 unfolding all-definitions
-the-room = refl
+the-room Edition2005 = refl
+the-room Edition2025 = refl

@@ -3,10 +3,12 @@
 use Prim.Native.Nat.{ℕ}
 use mathlib.Core.Path.{_≡_, refl}
 use mathlib.Core.List.{List, [], _∷_, _++_, tail}
+use Rattle.label.specs.declared.Edition.{Edition}
+use Rattle.label.specs.declared.Edition.the-variants.{Edition2005, Edition2025}
 use Rattle.label.specs.Bytes.{ascii, EOT, GS, RS}
 use Rattle.label.specs.Elements.{element06}
 use Rattle.label.specs.Segments.{tag03}
-use Rattle.label.specs.Formats.{edition2005, restByte, textByte}
+use Rattle.label.specs.Formats.{restByte, textByte}
 use Rattle.label.specs.Envelope.{Envelope, wholeRest, segments, elements, text, counted}
 use Rattle.label.specs.Message.{rowsOf, ordinalsOf, Each, Good}
 use Rattle.label.specs.Answer.{eachNumbers}
@@ -83,17 +85,18 @@ thirteen b =
     ∷ allTheRest
     ∷ []
 
-pub the-thirteen : (b : ℕ) → Stand (thirteen b)
+pub the-thirteen : (edition : Edition) (b : ℕ) → Stand edition (thirteen b)
 unfolding all-definitions
-the-thirteen b = refl
+the-thirteen Edition2005 b = refl
+the-thirteen Edition2025 b = refl
 
 -- Of the accepted cases: the list of envelopes, written by hand, with which the message is good and has the table's rows
 record Example : Type 0 where
   case : Case
   envelopes : List Envelope
 
-abbrev WrittenSo : Example → Type 0
-WrittenSo x = Good edition2005 (x .case .input) (x .envelopes) × (eachNumbers (rowsOf (x .envelopes)) (ordinalsOf (x .envelopes)) ≡ tail (x .case .lines))
+abbrev WrittenSo : Edition → Example → Type 0
+WrittenSo edition x = Good edition (x .case .input) (x .envelopes) × (eachNumbers (rowsOf (x .envelopes)) (ordinalsOf (x .envelopes)) ≡ tail (x .case .lines))
 
 abbrev acceptedCases : List Example
 acceptedCases =
@@ -104,12 +107,12 @@ acceptedCases =
     ∷ record { case = allTheRest; envelopes = wholeRest 2 (ascii "X") ∷ [] }
     ∷ []
 
-pub the-accepted-are-written : Each WrittenSo acceptedCases
+pub the-accepted-are-written : (edition : Edition) → Each (WrittenSo edition) acceptedCases
 unfolding all-definitions
-the-accepted-are-written =
-    (good _ _ (record { isElement = element06; known = refl; oneOrMore = refl; plainBytes = refl; asStated = refl } and tt) refl refl refl tt tt refl and refl)
-    and (good _ _ (record { permitted = textByte; known = refl; permittedBytes = refl } and tt) refl refl refl tt tt refl and refl)
-    and (good _ _ (record { known = refl; isType = refl; isCompression = refl; isCount = refl; counts = refl } and tt) refl refl refl tt tt refl and refl)
-    and (good _ _ (record { isTag = tag03; known = refl; sixBytes = refl; oneOrMore = refl; plainBytes = refl; allTagged = refl } and tt) refl refl refl tt tt refl and refl)
-    and (good _ _ (record { permitted = restByte; known = refl; notEmpty = refl; permittedBytes = refl } and tt) refl refl refl tt tt refl and refl)
+the-accepted-are-written edition =
+    (good edition _ _ (record { isElement = element06; known = refl; oneOrMore = refl; plainBytes = refl; asStated = refl } and tt) refl refl refl tt tt refl and refl)
+    and (good edition _ _ (record { permitted = textByte; known = refl; permittedBytes = refl } and tt) refl refl refl tt tt refl and refl)
+    and (good edition _ _ (record { known = refl; isType = refl; isCompression = refl; isCount = refl; counts = refl } and tt) refl refl refl tt tt refl and refl)
+    and (good edition _ _ (record { isTag = tag03; known = refl; sixBytes = refl; oneOrMore = refl; plainBytes = refl; allTagged = refl } and tt) refl refl refl tt tt refl and refl)
+    and (good edition _ _ (record { permitted = restByte; known = refl; notEmpty = refl; permittedBytes = refl } and tt) refl refl refl tt tt refl and refl)
     and tt

@@ -3,6 +3,8 @@ use Prim.Native.Nat.{ℕ}
 use Prim.Native.String.{String}
 use mathlib.Core.Path.{refl}
 use mathlib.Core.List.{List, [], _∷_, _++_}
+use Rattle.label.specs.declared.Edition.{Edition}
+use Rattle.label.specs.declared.Edition.the-variants.{Edition2005, Edition2025}
 use Rattle.label.specs.Bytes.{Bytes, ascii}
 use Rattle.label.proofs.AllDefinitions.{all-definitions}
 use Rattle.cases.proofs.Cases.{Case, Stand}
@@ -80,6 +82,7 @@ weights =
     ∷ behindBytes ∷ bad02 "5\u{1d}YY" 31 ∷ bad02 "123456789LB\u{1d}YY" 32 ∷ bad02 "5kg\u{1d}YY" 33 ∷ bad96 "5LB\u{1d}YY" 33
     ∷ []
 
-pub the-weights : Stand weights
+pub the-weights : (edition : Edition) → Stand edition weights
 unfolding all-definitions
-the-weights = refl
+the-weights Edition2005 = refl
+the-weights Edition2025 = refl

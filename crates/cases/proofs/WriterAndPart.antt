@@ -5,8 +5,9 @@ use mathlib.Core.Path.{_≡_, refl}
 use mathlib.Core.List.{List, [], _∷_, _++_, map}
 use lib.ListN.{length, replicate}
 use Rattle.label.specs.declared.Stretch.{Stretch}
+use Rattle.label.specs.declared.Edition.{Edition}
+use Rattle.label.specs.declared.Edition.the-variants.{Edition2005, Edition2025}
 use Rattle.label.specs.Bytes.{Bytes, ascii}
-use Rattle.label.specs.Formats.{edition2005}
 use Rattle.label.specs.Part.{partOf}
 use Rattle.label.specs.Writing.{writeAnswer, outputAfter}
 use Rattle.label.proofs.AllDefinitions.{all-definitions}
@@ -96,13 +97,15 @@ writerCases =
     ∷ record { held = cartonBytes; rows = cartonRows; output = short; answer = 22 ∷ []; after = short }
     ∷ []
 
-pub the-writer-answers : map (λ (c : WriterCase). writeAnswer edition2005 (c .held) (c .rows) (length (c .output))) writerCases ≡ map (λ (c : WriterCase). c .answer) writerCases
+pub the-writer-answers : (edition : Edition) → map (λ (c : WriterCase). writeAnswer edition (c .held) (c .rows) (length (c .output))) writerCases ≡ map (λ (c : WriterCase). c .answer) writerCases
 unfolding all-definitions
-the-writer-answers = refl
+the-writer-answers Edition2005 = refl
+the-writer-answers Edition2025 = refl
 
-pub the-writer-leaves : map (λ (c : WriterCase). outputAfter edition2005 (c .held) (c .rows) (c .output)) writerCases ≡ map (λ (c : WriterCase). c .after) writerCases
+pub the-writer-leaves : (edition : Edition) → map (λ (c : WriterCase). outputAfter edition (c .held) (c .rows) (c .output)) writerCases ≡ map (λ (c : WriterCase). c .after) writerCases
 unfolding all-definitions
-the-writer-leaves = refl
+the-writer-leaves Edition2005 = refl
+the-writer-leaves Edition2025 = refl
 
 -- a message and a row number; the part
 pub record PartCase : Type 0 where
@@ -122,6 +125,7 @@ partCases =
     ∷ record { input = manyElements 1024 (ascii "\u{4}"); row = 0; part = record { start = 0; length = 0 } }
     ∷ []
 
-pub the-parts : map (λ (c : PartCase). partOf edition2005 (c .input) (c .row)) partCases ≡ map (λ (c : PartCase). c .part) partCases
+pub the-parts : (edition : Edition) → map (λ (c : PartCase). partOf edition (c .input) (c .row)) partCases ≡ map (λ (c : PartCase). c .part) partCases
 unfolding all-definitions
-the-parts = refl
+the-parts Edition2005 = refl
+the-parts Edition2025 = refl

@@ -9,6 +9,7 @@ use borrow.Author.Tests.{le-leb, lt-leb, ltb-true, ltb-false, lt-ltb, le-ltb, eq
 use lib.ListN.{length, getD, take, drop, take-append-drop, length-take, length-drop}
 use lib.Seq.{drop-drop, length-take-le}
 use lib.Dec.{leb, ltb, eqb, eqb·zero-suc, eqb·suc-suc}
+use Rattle.label.specs.declared.Edition.{Edition}
 use Rattle.label.specs.declared.Reason.{Reason}
 use Rattle.label.specs.declared.Reason.the-variants.{BadFormatHeader, PayloadDoesNotFit, ByteNotPermitted, BodyBreaksRules, NoRecordSeparator}
 use Rattle.label.specs.Bytes.{Bytes, ascii, FS, GS, RS, US, plain, digit, capitalOrDigit, every, isEmpty}
@@ -17,19 +18,21 @@ use Rattle.label.specs.declared.BodyFault.{BodyFault}
 use Rattle.label.specs.declared.BodyFault.the-variants.{InPiece, OfWhole}
 use Rattle.label.specs.Pieces.{pieces, lastIsEmpty, Cut, cut}
 use Rattle.label.specs.Values.{Version, version02, version96, versionDigits, releaseLength, release, payloadType, compression, count, value}
-use Rattle.label.specs.Elements.{element05, element06}
-use Rattle.label.specs.Segments.{tag, tag03, tagged}
-use Rattle.label.specs.Formats.{restByte, textByte}
+use Rattle.label.specs.Faults.{elementsFault, wholeFault}
+use Rattle.label.specs.Segments.{tagged}
+use Rattle.label.specs.Formats.{ruleOf, restByte, textByte}
 use Rattle.label.specs.Envelope.{Envelope, fields, wholeRest, segments, elements, text, counted}
 use Rattle.label.specs.Written.{pieceRow, parts}
-use Rattle.label.specs.ReadEnvelope.{Step, closed, whole, refuse, must, opened, valuedAt, valued, broken, bodyAt, bodied, versionOf, readFields, readTransport, readRest, segmentsIn, areSegments, readSegments, readElements, readText, readPayload, readCounted}
+use Rattle.label.specs.ReadEnvelope.{Step, closed, whole, refuse, must, opened, valuedAt, valued, broken, bodyAt, bodied, plainOrGS, segmentByte, versionOf, readFields, readTransport, readRest, segmentsIn, areSegments, readSegments, readElements, readText, readPayload, readCounted, readBy}
 use Rattle.label.specs.ReadMessage.{agreement}
 use Rattle.label.proofs.Tests.{both, and-both, cond-yes, cond-no}
 use Rattle.label.proofs.EnvelopeSound.{version-so}
 use Rattle.label.proofs.ReadingSound.{begins}
+use Rattle.formats.specs.declared.Shape.{Shape}
+use Rattle.formats.specs.Shapes.{ruleFor}
 use Rattle.leaves.specs.Seek.{seek, tallyOf}
 use Rattle.pieces.specs.declared.Kind.{Kind}
-use Rattle.pieces.specs.declared.Kind.the-variants.{Fields02, Fields96, Segments03, Segments04, Elements05, Elements06, Text}
+use Rattle.pieces.specs.declared.Kind.the-variants.{Fields02, Fields96, Text}
 use Rattle.pieces.proofs.SeekLaws.{cut-found, cut-absent}
 use Rattle.bodies.specs.Kinds.{permittedOf, rulesOf, rowsOfBody}
 use Rattle.bodies.proofs.RuleLaws.{pieces-count}
@@ -124,19 +127,20 @@ pieces-rows : (f : ℕ) (body : Bytes) → rowCount (elements f (pieces GS body)
 unfolding parts
 pieces-rows f body = omega (arith, items-pieces GS pieceRow f (pieces GS body), pieces-count GS body)
 
-pub shown-05 : (m : Bytes) (at : ℕ) → at ≤ length m → shown m (readElements element05 5 (drop at m)) ≡ elementsFound Elements05 m at
+pub shown-elements : (k : Kind) (isElement : Bytes → Bool) (f : ℕ) (m : Bytes) (at : ℕ) → at ≤ length m
+    → bodied plainOrGS (λ body. every isElement (pieces GS body)) (elementsFault isElement) ≡ bodied (permittedOf k) (rulesOf k) (faultOf k) → ((body : Bytes) → rowsOfBody k body ≡ tallyOf GS body + 1)
+    → shown m (readElements isElement f (drop at m)) ≡ elementsFound k m at
 unfolding readElements
-shown-05 m at inside = shown-opened m (GS ∷ []) at _ (bodyFound Elements05 1 m (at + 1)) inside (λ long. shown-body Elements05 1 m (at + 1) (λ body. elements 5 (pieces GS body)) long (λ body kept. pieces-rows 5 body))
-
-pub shown-06 : (m : Bytes) (at : ℕ) → at ≤ length m → shown m (readElements element06 6 (drop at m)) ≡ elementsFound Elements06 m at
-unfolding readElements
-shown-06 m at inside = shown-opened m (GS ∷ []) at _ (bodyFound Elements06 1 m (at + 1)) inside (λ long. shown-body Elements06 1 m (at + 1) (λ body. elements 6 (pieces GS body)) long (λ body kept. pieces-rows 6 body))
+shown-elements k isElement f m at inside same counts =
+    shown-opened m (GS ∷ []) at _ (bodyFound k 1 m (at + 1)) inside
+    (λ long. ap (λ read. shown m (read (λ body. elements f (pieces GS body)) (drop (at + 1) m))) same
+    ∙ shown-body k 1 m (at + 1) (λ body. elements f (pieces GS body)) long (λ body kept. pieces-rows f body ∙ ap (λ n. 1 + n) (sym (counts body))))
 
 -- 07
 
-pub shown-07 : (m : Bytes) (at : ℕ) → at ≤ length m → shown m (readText textByte 7 (drop at m)) ≡ bodyFound Text 1 m at
+pub shown-text : (f : ℕ) (m : Bytes) (at : ℕ) → at ≤ length m → shown m (readText textByte f (drop at m)) ≡ bodyFound Text 1 m at
 unfolding readText parts
-shown-07 m at inside = shown-body Text 1 m at (text 7) inside (λ body kept. refl)
+shown-text f m at inside = shown-body Text 1 m at (text f) inside (λ body kept. refl)
 
 -- 02
 
@@ -147,11 +151,11 @@ not-empty m at = by (drop at m) (length-drop at m)
     by [] is = sym (le-ltb at (length m) (omega arith))
     by (b ∷ bs) is = sym (lt-ltb at (length m) (omega arith))
 
-pub shown-02 : (m : Bytes) (at : ℕ) → shown m (readRest restByte 2 (drop at m)) ≡ restFound m at
+pub shown-rest : (f : ℕ) (m : Bytes) (at : ℕ) → shown m (readRest restByte f (drop at m)) ≡ restFound m at
 unfolding readRest parts
-shown-02 m at =
+shown-rest f m at =
     shown-must m (not (isEmpty (drop at m))) _ _
-    ∙ (λ i. cond (not-empty m at i) (shown-must m (every restByte (drop at m)) ByteNotPermitted (whole (wholeRest 2 (drop at m))) i) (Refused BodyBreaksRules))
+    ∙ (λ i. cond (not-empty m at i) (shown-must m (every restByte (drop at m)) ByteNotPermitted (whole (wholeRest f (drop at m))) i) (Refused BodyBreaksRules))
 
 -- 03, 04
 
@@ -200,17 +204,16 @@ shown-six m at next there inside then =
         ap (λ l. shown m (opened (FS ∷ GS ∷ US ∷ []) l next)) (drop-drop releaseLength at m)
         ∙ shown-opened m (FS ∷ GS ∷ US ∷ []) (at + releaseLength) next there long then
 
-pub shown-03 : (m : Bytes) (at : ℕ) → at ≤ length m → shown m (readSegments tag03 3 (drop at m)) ≡ segmentsFound Segments03 m at
+pub shown-segments : (k : Kind) (isTag : Bytes → Bool) (f : ℕ) (m : Bytes) (at : ℕ) → at ≤ length m
+    → bodied segmentByte (areSegments isTag) wholeFault ≡ bodied (permittedOf k) (rulesOf k) (faultOf k)
+    → ((body : Bytes) → rulesOf k body ≡ true → areSegments isTag body ≡ true) → ((body : Bytes) → rowsOfBody k body ≡ tallyOf FS body + tallyOf GS body + tallyOf US body)
+    → shown m (readSegments isTag f (drop at m)) ≡ segmentsFound k m at
 unfolding readSegments
-shown-03 m at inside =
-    shown-six m at _ (bodyFound Segments03 2 m (at + releaseLength + 3)) inside
-    (λ long. shown-body Segments03 2 m (at + releaseLength + 3) (λ body. segments 3 (take releaseLength (drop at m)) (segmentsIn body)) long (λ body kept. segment-rows 3 (take releaseLength (drop at m)) tag03 body kept))
-
-pub shown-04 : (m : Bytes) (at : ℕ) → at ≤ length m → shown m (readSegments tag 4 (drop at m)) ≡ segmentsFound Segments04 m at
-unfolding readSegments
-shown-04 m at inside =
-    shown-six m at _ (bodyFound Segments04 2 m (at + releaseLength + 3)) inside
-    (λ long. shown-body Segments04 2 m (at + releaseLength + 3) (λ body. segments 4 (take releaseLength (drop at m)) (segmentsIn body)) long (λ body kept. segment-rows 4 (take releaseLength (drop at m)) tag body kept))
+shown-segments k isTag f m at inside same are counts =
+    let six = take releaseLength (drop at m) in
+    shown-six m at _ (bodyFound k 2 m (at + releaseLength + 3)) inside
+    (λ long. ap (λ read. shown m (read (λ body. segments f six (segmentsIn body)) (drop (at + releaseLength + 3) m))) same
+    ∙ shown-body k 2 m (at + releaseLength + 3) (λ body. segments f six (segmentsIn body)) long (λ body kept. segment-rows f six isTag body (are body kept) ∙ ap (λ n. 2 + n) (sym (counts body))))
 
 -- 01
 
@@ -243,24 +246,24 @@ transport-without f (b ∷ bs) none-there = by (eqb b GS) refl
     by true is = by-version (versionOf (take 2 bs)) (eqb-true b GS is) refl
     by false is = refl
 
-version-body : (v : Version) (k : Kind) (m : Bytes) (at : ℕ) → at ≤ length m → agreement (GS ∷ versionDigits v) (drop at m) ≡ 3
-    → (at + 3 ≤ length m → shown m (readFields 1 (some v) (drop (at + 3) m)) ≡ bodyFound k 2 m (at + 3)) → shown m (readTransport 1 (drop at m)) ≡ bodyFound k 2 m (at + 3)
-version-body v k m at inside is then =
-    ap (shown m) (transport-with v 1 (drop at m) is ∙ ap (readFields 1 (some v)) (drop-drop 3 at m)) ∙ then (long v is)
+version-body : (f : ℕ) (v : Version) (k : Kind) (m : Bytes) (at : ℕ) → at ≤ length m → agreement (GS ∷ versionDigits v) (drop at m) ≡ 3
+    → (at + 3 ≤ length m → shown m (readFields f (some v) (drop (at + 3) m)) ≡ bodyFound k 2 m (at + 3)) → shown m (readTransport f (drop at m)) ≡ bodyFound k 2 m (at + 3)
+version-body f v k m at inside is then =
+    ap (shown m) (transport-with v f (drop at m) is ∙ ap (readFields f (some v)) (drop-drop 3 at m)) ∙ then (long v is)
   where
     long : (v : Version) → agreement (GS ∷ versionDigits v) (drop at m) ≡ 3 → at + 3 ≤ length m
     long version02 is = begins-long (GS ∷ versionDigits version02) m at inside is
     long version96 is = begins-long (GS ∷ versionDigits version96) m at inside is
 
-pub shown-01 : (m : Bytes) (at : ℕ) → at ≤ length m → shown m (readTransport 1 (drop at m)) ≡ transportFound m at
+pub shown-transport : (f : ℕ) (m : Bytes) (at : ℕ) → at ≤ length m → shown m (readTransport f (drop at m)) ≡ transportFound m at
 unfolding readFields
-shown-01 m at inside = by (beginsAt (GS ∷ ascii "02") m at) (beginsAt (GS ∷ ascii "96") m at) refl refl
+shown-transport f m at inside = by (beginsAt (GS ∷ ascii "02") m at) (beginsAt (GS ∷ ascii "96") m at) refl refl
   where
     by : (s t : Bool) → beginsAt (GS ∷ ascii "02") m at ≡ s → beginsAt (GS ∷ ascii "96") m at ≡ t
-        → shown m (readTransport 1 (drop at m)) ≡ cond s (bodyFound Fields02 2 m (at + 3)) (cond t (bodyFound Fields96 2 m (at + 3)) (Refused BadFormatHeader))
-    by true t p q = version-body version02 Fields02 m at inside (eqb-true _ 3 p) (λ long. shown-body Fields02 2 m (at + 3) (λ body. fields 1 version02 (pieces GS body)) long (λ body kept. field-rows 1 version02 body))
-    by false true p q = version-body version96 Fields96 m at inside (eqb-true _ 3 q) (λ long. shown-body Fields96 2 m (at + 3) (λ body. fields 1 version96 (pieces GS body)) long (λ body kept. field-rows 1 version96 body))
-    by false false p q = ap (shown m) (transport-without 1 (drop at m) neither)
+        → shown m (readTransport f (drop at m)) ≡ cond s (bodyFound Fields02 2 m (at + 3)) (cond t (bodyFound Fields96 2 m (at + 3)) (Refused BadFormatHeader))
+    by true t p q = version-body f version02 Fields02 m at inside (eqb-true _ 3 p) (λ long. shown-body Fields02 2 m (at + 3) (λ body. fields f version02 (pieces GS body)) long (λ body kept. field-rows f version02 body))
+    by false true p q = version-body f version96 Fields96 m at inside (eqb-true _ 3 q) (λ long. shown-body Fields96 2 m (at + 3) (λ body. fields f version96 (pieces GS body)) long (λ body kept. field-rows f version96 body))
+    by false false p q = ap (shown m) (transport-without f (drop at m) neither)
       where
         neither : (v : Version) → agreement (GS ∷ versionDigits v) (drop at m) ≡ 3 → ⊥
         neither version02 is = eqb-false _ 3 p is
@@ -321,25 +324,32 @@ module _ (least most : ℕ) (class : ℕ → Bool) (m : Bytes) (at : ℕ) (insid
           ∙ by-test (leb least n && leb n most) (every class (take n bs)) refl refl less
       by-gs false past = ap (λ c. shown m (valuedAt (λ v. longAs (least to most) v && every class v) next c)) (cut-absent GS bs (ltb-false n (length bs) past)) ∙ refused-there (length m) refl
 
-count-step : (m : Bytes) (at : ℕ) (t c : Bytes) → at ≤ length m → shown m (valued count (drop at m) λ n rest. readPayload (value n) (counted 9 t c n) rest) ≡ countFound m at
+count-step : (f : ℕ) (m : Bytes) (at : ℕ) (t c : Bytes) → at ≤ length m → shown m (valued count (drop at m) λ n rest. readPayload (value n) (counted f t c n) rest) ≡ countFound m at
 unfolding count parts
-count-step m at t c inside =
-    shown-valued 1 15 digit m at inside (λ n rest. readPayload (value n) (counted 9 t c n) rest) (payloadFound (value (take (valueEnd 1 15 digit m at - at) (drop at m))) m)
+count-step f m at t c inside =
+    shown-valued 1 15 digit m at inside (λ n rest. readPayload (value n) (counted f t c n) rest) (payloadFound (value (take (valueEnd 1 15 digit m at - at) (drop at m))) m)
     (λ end is less.
-    shown-payload m (end + 1) (value (take (end - at) (drop at m))) (counted 9 t c (take (end - at) (drop at m))) (omega arith) (λ payload. refl)
+    shown-payload m (end + 1) (value (take (end - at) (drop at m))) (counted f t c (take (end - at) (drop at m))) (omega arith) (λ payload. refl)
     ∙ ap (λ e. payloadFound (value (take (e - at) (drop at m))) m (end + 1)) is)
 
-compression-step : (m : Bytes) (at : ℕ) (t : Bytes) → at ≤ length m
-    → shown m (valued compression (drop at m) λ c rest. valued count rest λ n rest. readPayload (value n) (counted 9 t c n) rest) ≡ compressionFound m at
+compression-step : (f : ℕ) (m : Bytes) (at : ℕ) (t : Bytes) → at ≤ length m
+    → shown m (valued compression (drop at m) λ c rest. valued count rest λ n rest. readPayload (value n) (counted f t c n) rest) ≡ compressionFound m at
 unfolding compression
-compression-step m at t inside =
-    shown-valued 0 30 plain m at inside (λ c rest. valued count rest λ n rest. readPayload (value n) (counted 9 t c n) rest) (countFound m)
-    (λ end is less. count-step m (end + 1) t (take (end - at) (drop at m)) (omega arith))
+compression-step f m at t inside =
+    shown-valued 0 30 plain m at inside (λ c rest. valued count rest λ n rest. readPayload (value n) (counted f t c n) rest) (countFound m)
+    (λ end is less. count-step f m (end + 1) t (take (end - at) (drop at m)) (omega arith))
 
-pub shown-09 : (m : Bytes) (at : ℕ) → at ≤ length m → shown m (readCounted 9 (drop at m)) ≡ countedFound m at
+pub shown-counted : (f : ℕ) (m : Bytes) (at : ℕ) → at ≤ length m → shown m (readCounted f (drop at m)) ≡ countedFound m at
 unfolding readCounted payloadType
-shown-09 m at inside =
+shown-counted f m at inside =
     shown-opened m (GS ∷ []) at _ (afterValue m (valueEnd 1 30 plain m (at + 1)) (compressionFound m)) inside
     (λ long.
-    shown-valued 1 30 plain m (at + 1) long (λ t rest. valued compression rest λ c rest. valued count rest λ n rest. readPayload (value n) (counted 9 t c n) rest) (compressionFound m)
-    (λ end is less. compression-step m (end + 1) (take (end - (at + 1)) (drop (at + 1) m)) (omega arith)))
+    shown-valued 1 30 plain m (at + 1) long (λ t rest. valued compression rest λ c rest. valued count rest λ n rest. readPayload (value n) (counted f t c n) rest) (compressionFound m)
+    (λ end is less. compression-step f m (end + 1) (take (end - (at + 1)) (drop (at + 1) m)) (omega arith)))
+
+-- By the shape
+
+-- what is found of a shape is what reading by the rule of a format with that shape shows
+pub found-by : (edition : Edition) (s : Shape) (first : Bool) (f : ℕ) (m : Bytes) (at : ℕ) (found : Found) → ruleFor s ≡ ruleOf edition f
+    → shown m (readBy (ruleFor s) first f (drop at m)) ≡ found → found ≡ shown m (readBy (ruleOf edition f) first f (drop at m))
+found-by edition s first f m at found is shows = sym shows ∙ ap (λ rule. shown m (readBy rule first f (drop at m))) is

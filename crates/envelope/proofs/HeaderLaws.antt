@@ -10,7 +10,8 @@ use lib.Dec.{leb}
 use Rattle.label.specs.declared.Reason.the-variants.{NoIndicator}
 use Rattle.label.specs.Bytes.{Bytes, digit, between}
 use Rattle.label.specs.Values.{value}
-use Rattle.label.specs.Formats.{Edition, ruleOf}
+use Rattle.label.specs.declared.Edition.{Edition}
+use Rattle.label.specs.Formats.{ruleOf}
 use Rattle.label.specs.ReadEnvelope.{refuse, must, readBy, readEnvelope}
 use Rattle.label.proofs.Tests.{both, right-fails}
 use Rattle.leaves.proofs.Turns.{drop-step}

@@ -3,12 +3,15 @@ mod body;
 mod format;
 mod header;
 
+use formats::Shape;
+use formats::shape_in;
+use label::Edition;
 use label::Reason;
 use pieces::Kind;
 ghost use mathlib.Core.Path.{_≡_};
 ghost use Prim.Native.Nat.{_≤_};
 ghost use lib.ListN.{length, drop};
-ghost use Rattle.label.specs.Formats.{edition2005, ruleOf};
+ghost use Rattle.label.specs.Formats.{ruleOf};
 ghost use Rattle.label.specs.ReadEnvelope.{readBy, readEnvelope};
 ghost use Rattle.envelope.specs.Shown.{shown};
 
@@ -21,39 +24,40 @@ pub enum Found {
     RefusedAt(Reason, usize),
 }
 
-// The format with a number, behind its indicator: 6, then 7, then its header and body.
-fn judge_format(m: &[u8], at: usize, f: usize, first: bool) -> Found
+// The format with a number in an edition, behind its indicator: 6, then 7, then its header and body.
+fn judge_format(edition: Edition, m: &[u8], at: usize, f: usize, first: bool) -> Found
     requires { ⌜ at ≤ length (now m) ⌝ }
-    ensures { λ r. ⌜ r ≡ shown (now (m .entry)) (readBy (ruleOf edition2005 f) first f (drop at (now (m .entry)))) ⌝ }
+    ensures { λ r. ⌜ r ≡ shown (now (m .entry)) (readBy (ruleOf edition f) first f (drop at (now (m .entry)))) ⌝ }
 {
-    match f {
-        1 => if first {
+    let shape = shape_in(edition, f);
+    match shape {
+        Shape::Fields => if first {
             format::judge_transport(m, at)
         } else {
             Found::Refused(Reason::NotFirst)
         },
-        2 => if first {
+        Shape::Rest => if first {
             format::judge_rest(m, at)
         } else {
             Found::Refused(Reason::NotFirst)
         },
-        3 => format::judge_segments(m, at, Kind::Segments03),
-        4 => format::judge_segments(m, at, Kind::Segments04),
-        5 => format::judge_elements(m, at, Kind::Elements05),
-        6 => format::judge_elements(m, at, Kind::Elements06),
-        7 => body::judge_body(m, at, Kind::Text, 1),
-        9 => format::judge_counted(m, at),
-        _ => Found::Refused(Reason::UnknownFormat),
+        Shape::Segments03 => format::judge_segments(m, at, Kind::Segments03),
+        Shape::Segments04 => format::judge_segments(m, at, Kind::Segments04),
+        Shape::Elements05 => format::judge_elements(m, at, Kind::Elements05),
+        Shape::Elements06 => format::judge_elements(m, at, Kind::Elements06),
+        Shape::Text => body::judge_body(m, at, Kind::Text, 1),
+        Shape::Counted => format::judge_counted(m, at),
+        Shape::Unknown => Found::Refused(Reason::UnknownFormat),
     }
 }
 
 // What is found where an envelope is due: 3, then its format.
-pub fn judge_envelope(m: &[u8], at: usize, first: bool) -> Found
-    ensures { λ r. ⌜ r ≡ shown (now (m .entry)) (readEnvelope edition2005 first (drop at (now (m .entry)))) ⌝ }
+pub fn judge_envelope(edition: Edition, m: &[u8], at: usize, first: bool) -> Found
+    ensures { λ r. ⌜ r ≡ shown (now (m .entry)) (readEnvelope edition first (drop at (now (m .entry)))) ⌝ }
 {
     let f = header::indicator(m, at);
     if 99 < f {
         return Found::Refused(Reason::NoIndicator);
     }
-    judge_format(m, at + 2, f, first)
+    judge_format(edition, m, at + 2, f, first)
 }

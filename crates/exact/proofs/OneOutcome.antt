@@ -6,5 +6,5 @@ use denote.Ref.{now}
 use Rattle.label.proofs.Numbers.{readings-by-answer}
 use Rattle.exact.proofs.table.read_exactly.Reads as read-exactly
 
-pub read-exactly-once : (κs : Lfts 2) (a : _) (r r′ : _) (s s′ : _) → read-exactly.Learnt κs a r s → read-exactly.Learnt κs a r′ s′ → (r ≡ r′) × (now (s .1 .0) ≡ now (s′ .1 .0))
+pub read-exactly-once : (κs : Lfts 2) (a : _) (r r′ : _) (s s′ : _) → read-exactly.Learnt κs a r s → read-exactly.Learnt κs a r′ s′ → (r ≡ r′) × (now (s .1 .1 .0) ≡ now (s′ .1 .1 .0))
 read-exactly-once κs a r r′ s s′ one two = (readings-by-answer r r′ (one .0 ∙ sym (two .0)), one .1 ∙ sym (two .1))

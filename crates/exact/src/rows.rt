@@ -6,13 +6,10 @@ ghost use mathlib.Core.Path.{_≡_};
 ghost use mathlib.Core.List.{_++_};
 ghost use lib.ListN.{drop, take};
 ghost use Rattle.label.specs.Limits.{mostRows, rowWidth};
-ghost use Rattle.label.specs.Formats.{edition2005};
 ghost use Rattle.label.specs.Layout.{numbers};
-ghost use Rattle.label.specs.ReadMessage.{reading};
-ghost use Rattle.label.specs.Answer.{overlaid, numbersRead};
 ghost use Rattle.label.specs.Counting.{raised};
 ghost use Rattle.walk.specs.Cursors.{kindOf, rowOf};
-ghost use Rattle.exact.specs.Tables.{Fits, Room};
+ghost use Rattle.exact.specs.Tables.{Fits, Room, FilledWith};
 
 // Puts a row's numbers into a table, from an index on, its envelope's ordinal last; all other numbers stay as they were.
 fn put_row(t: &mut [u32], at: usize, c: Cursor, ordinal: u32)
@@ -43,7 +40,7 @@ fn raised_at(ordinal: u32, c: Cursor) -> u32
 // Fills a table with the rows of a message, whose number is known; what lies behind them stays as it was.
 pub(crate) fn fill(m: &[u8], rows: usize, table: &mut [u32])
     requires { ⌜ Room (now m) rows (now table) ⌝ }
-    ensures { λ r. ⌜ now (table .exit) ≡ overlaid (numbersRead (reading edition2005 (now (m .entry)))) (now (table .entry)) ⌝ }
+    ensures { λ r. ⌜ FilledWith (now (m .entry)) rows (now (table .entry)) (now (table .exit)) ⌝ }
 {
     let mut c = steps::first(m);
     let mut ordinal = 0;

@@ -9,9 +9,9 @@ use lib.ListN.{length, drop, length-drop}
 use lib.Dec.{ltb}
 use Rattle.label.specs.declared.Reading.the-variants.{Accepted, Refused}
 use Rattle.label.specs.declared.Reason.the-variants.{TooLong, NoMessageHeader, TooManyRows}
+use Rattle.label.specs.declared.Edition.{Edition}
 use Rattle.label.specs.Bytes.{Bytes, RS}
 use Rattle.label.specs.Limits.{longest, mostRows}
-use Rattle.label.specs.Formats.{edition2005}
 use Rattle.label.specs.Layout.{Part, mark, marks, itemsOf, separated, ended}
 use Rattle.label.specs.Envelope.{Envelope}
 use Rattle.label.specs.Written.{parts}
@@ -59,19 +59,19 @@ limited-law (read es) = by (ltb mostRows (length (rowsOf es))) refl
     by false few = cond-no _ _ _ (ap (ltb mostRows) rows ∙ few) ∙ (λ i. Accepted (record { envelopes = envelopes i; rows = rows i }))
 limited-law (refused r p) = refl
 
-pub judge-long : (m : Bytes) → longest < length m → Refused (record { reason = TooLong; place = longest }) ≡ judgedAs (reading edition2005 m)
+pub judge-long : (edition : Edition) (m : Bytes) → longest < length m → Refused (record { reason = TooLong; place = longest }) ≡ judgedAs (reading edition m)
 unfolding reading
-judge-long m long = sym (ap judgedAs (cond-yes _ _ _ (lt-ltb longest (length m) long)))
+judge-long edition m long = sym (ap judgedAs (cond-yes _ _ _ (lt-ltb longest (length m) long)))
 
-pub judge-header : (m : Bytes) (n : ℕ) → length m ≤ longest → n ≡ agreement header m → n < 4 → Refused (record { reason = NoMessageHeader; place = n }) ≡ judgedAs (reading edition2005 m)
+pub judge-header : (edition : Edition) (m : Bytes) (n : ℕ) → length m ≤ longest → n ≡ agreement header m → n < 4 → Refused (record { reason = NoMessageHeader; place = n }) ≡ judgedAs (reading edition m)
 unfolding reading
-judge-header m n short is differs =
+judge-header edition m n short is differs =
     ap (λ p. Refused (record { reason = NoMessageHeader; place = p })) is
     ∙ sym (ap judgedAs (cond-no _ _ _ (le-ltb longest (length m) short) ∙ cond-yes _ _ _ (lt-ltb (agreement header m) 4 (omega arith))))
 
-pub judge-walk : (m : Bytes) → length m ≤ longest → 4 ≤ agreement header m → 4 ≤ length m → limited (tallied 0 0 (unboundedWalk edition2005 m true (drop 4 m))) ≡ judgedAs (reading edition2005 m)
+pub judge-walk : (edition : Edition) (m : Bytes) → length m ≤ longest → 4 ≤ agreement header m → 4 ≤ length m → limited (tallied 0 0 (unboundedWalk edition m true (drop 4 m))) ≡ judgedAs (reading edition m)
 unfolding reading unboundedWalk
-judge-walk m short agrees long =
-    limited-law (walk edition2005 m (suc (length (drop 4 m))) true (drop 4 m))
-    ∙ ap (λ o. judgedAs (withinRows o)) (bound-is-enough edition2005 m (suc (length (drop 4 m))) (enough m) true (drop 4 m) (omega arith) (omega (arith, length-drop 4 m)))
+judge-walk edition m short agrees long =
+    limited-law (walk edition m (suc (length (drop 4 m))) true (drop 4 m))
+    ∙ ap (λ o. judgedAs (withinRows o)) (bound-is-enough edition m (suc (length (drop 4 m))) (enough m) true (drop 4 m) (omega arith) (omega (arith, length-drop 4 m)))
     ∙ sym (ap judgedAs (cond-no _ _ _ (le-ltb longest (length m) short) ∙ cond-no _ _ _ (le-ltb (agreement header m) 4 agrees)))

@@ -6,8 +6,8 @@ use lib.ListN.{length}
 use Rattle.label.specs.declared.Counts.{Counts}
 use Rattle.label.specs.declared.Refusal.{Refusal}
 use Rattle.label.specs.declared.Reading.the-variants.{Accepted, Refused}
+use Rattle.label.specs.declared.Edition.{Edition}
 use Rattle.label.specs.Bytes.{Bytes}
-use Rattle.label.specs.Formats.{edition2005}
 use Rattle.label.specs.Message.{rowsOf}
 use Rattle.label.specs.ReadMessage.{Outcome, read, refused, reading}
 use Rattle.label.specs.Answer.{rowsRead}
@@ -21,8 +21,8 @@ none-by : (o : Outcome) (r : Refusal) → judgedAs o ≡ Refused r → 0 ≡ len
 none-by (read es) r says = let z : _≡_ {A = ℕ} 0 1 = cc in absurd (omega arith)
 none-by (refused reason place) r says = refl
 
-pub rows-judged : (m : Bytes) (counts : Counts) → judgedAs (reading edition2005 m) ≡ Accepted counts → counts .rows ≡ length (rowsRead (reading edition2005 m))
-rows-judged m counts says = rows-by (reading edition2005 m) counts says
+pub rows-judged : (edition : Edition) (m : Bytes) (counts : Counts) → judgedAs (reading edition m) ≡ Accepted counts → counts .rows ≡ length (rowsRead (reading edition m))
+rows-judged edition m counts says = rows-by (reading edition m) counts says
 
-pub none-judged : (m : Bytes) (r : Refusal) → judgedAs (reading edition2005 m) ≡ Refused r → 0 ≡ length (rowsRead (reading edition2005 m))
-none-judged m r says = none-by (reading edition2005 m) r says
+pub none-judged : (edition : Edition) (m : Bytes) (r : Refusal) → judgedAs (reading edition m) ≡ Refused r → 0 ≡ length (rowsRead (reading edition m))
+none-judged edition m r says = none-by (reading edition m) r says

@@ -8,20 +8,20 @@ use Rattle.label.specs.ReadMessage.{unboundedWalk}
 use Rattle.label.specs.declared.Reading.{Reading}
 use Rattle.label.specs.declared.Reading.the-variants.{Accepted, Refused}
 use Rattle.label.specs.declared.Reason.the-variants.{NoTrailer, BytesAfterTrailer}
+use Rattle.label.specs.declared.Edition.{Edition}
 use Rattle.label.specs.Bytes.{Bytes, EOT}
-use Rattle.label.specs.Formats.{edition2005}
 use Rattle.judge.specs.declared.State.{State}
 use Rattle.judge.specs.declared.Turn.{Turn}
 use Rattle.judge.specs.declared.Turn.the-variants.{Done, Go}
 use Rattle.judge.specs.Shown.{tallied}
 
 -- what a message comes to from a state on
-abbrev pub resultOf : Bytes → State → Reading
-resultOf m s = tallied (s .envelopes) (s .rows) (unboundedWalk edition2005 m (s .first) (drop (s .at) m))
+abbrev pub resultOf : Edition → Bytes → State → Reading
+resultOf edition m s = tallied (s .envelopes) (s .rows) (unboundedWalk edition m (s .first) (drop (s .at) m))
 
-abbrev pub resultAfter : Bytes → Turn → Reading
-resultAfter m (Done r) = r
-resultAfter m (Go s) = resultOf m s
+abbrev pub resultAfter : Edition → Bytes → Turn → Reading
+resultAfter edition m (Done r) = r
+resultAfter edition m (Go s) = resultOf edition m s
 
 -- a state that lies in the message, and has counted no more than it has passed
 pub record Sound (m : Bytes) (s : State) : Type 0 where
@@ -34,8 +34,8 @@ Further m at (Done r) = Unit {0}
 Further m at (Go s) = Sound m s × (at < s .at)
 
 -- a turn leaves the result as it is, and goes on further to the right
-pub record TurnSo (m : Bytes) (s : State) (t : Turn) : Type 0 where
-  pub same : resultAfter m t ≡ resultOf m s
+pub record TurnSo (edition : Edition) (m : Bytes) (s : State) (t : Turn) : Type 0 where
+  pub same : resultAfter edition m t ≡ resultOf edition m s
   pub further : Further m (s .at) t
 
 -- at a boundary after an envelope, with the counts so far: 4, then EOT with 5, then the next envelope

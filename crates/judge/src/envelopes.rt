@@ -4,6 +4,7 @@ use crate::Turn;
 use envelope::Found;
 use envelope::judge_envelope;
 use label::Counts;
+use label::Edition;
 use label::HEADER_LENGTH;
 use label::Reading;
 use label::Reason;
@@ -14,7 +15,6 @@ ghost use mathlib.Core.Bool.{true};
 ghost use Prim.Native.Nat.{_≤_};
 ghost use lib.ListN.{length, drop};
 ghost use Rattle.label.specs.ReadMessage.{unboundedWalk};
-ghost use Rattle.label.specs.Formats.{edition2005};
 ghost use Rattle.label.specs.Message.{header};
 ghost use Rattle.judge.specs.Shown.{tallied};
 ghost use Rattle.judge.specs.Turns.{Sound, TurnSo, boundaryTurn};
@@ -48,14 +48,14 @@ fn boundary(m: &[u8], at: usize, envelopes: usize, rows: usize) -> Turn
 }
 
 // One envelope, and what follows it.
-fn turn(m: &[u8], s: State) -> Turn
+fn turn(edition: Edition, m: &[u8], s: State) -> Turn
     requires { ⌜ Sound (now m) s ⌝ }
-    ensures { λ r. ⌜ TurnSo (now (m .entry)) s r ⌝ }
+    ensures { λ r. ⌜ TurnSo edition (now (m .entry)) s r ⌝ }
 {
     let at = s.at;
     let envelopes = s.envelopes;
     let rows = s.rows;
-    let found = judge_envelope(m, at, s.first);
+    let found = judge_envelope(edition, m, at, s.first);
     match found {
         Found::Refused(reason) => refused(reason, at),
         Found::RefusedAt(reason, place) => refused(reason, place),
@@ -68,9 +68,9 @@ fn turn(m: &[u8], s: State) -> Turn
 }
 
 // All envelopes from behind the header on.
-pub(crate) fn walk_envelopes(m: &[u8]) -> Reading
+pub(crate) fn walk_envelopes(edition: Edition, m: &[u8]) -> Reading
     requires { ⌜ length header ≤ length (now m) ⌝ }
-    ensures { λ r. ⌜ r ≡ tallied 0 0 (unboundedWalk edition2005 (now (m .entry)) true (drop (length header) (now (m .entry)))) ⌝ }
+    ensures { λ r. ⌜ r ≡ tallied 0 0 (unboundedWalk edition (now (m .entry)) true (drop (length header) (now (m .entry)))) ⌝ }
 {
     let mut s = State {
         at: HEADER_LENGTH,
@@ -79,7 +79,7 @@ pub(crate) fn walk_envelopes(m: &[u8]) -> Reading
         rows: 0,
     };
     loop {
-        let t = turn(m, s);
+        let t = turn(edition, m, s);
         match t {
             Turn::Done(r) => return r,
             Turn::Go(next) => s = next,

@@ -1,6 +1,7 @@
 // The first pass over a message: each envelope is judged from the left, envelopes and rows are counted, and nothing is written.
 mod envelopes;
 
+use label::Edition;
 use label::HEADER;
 use label::HEADER_LENGTH;
 use label::LONGEST;
@@ -9,7 +10,6 @@ use label::Reading;
 use label::Reason;
 use label::Refusal;
 ghost use mathlib.Core.Path.{_≡_};
-ghost use Rattle.label.specs.Formats.{edition2005};
 ghost use Rattle.label.specs.ReadMessage.{reading};
 ghost use Rattle.judge.specs.Shown.{judgedAs, limited};
 
@@ -48,9 +48,9 @@ fn within_rows(r: Reading) -> Reading
     }
 }
 
-// The reading of a message, whatever table is lent: 1, 2, then its envelopes, then 13.
-pub fn judge(m: &[u8]) -> Reading
-    ensures { λ r. ⌜ r ≡ judgedAs (reading edition2005 (now (m .entry))) ⌝ }
+// The reading of a message in an edition, whatever table is lent: 1, 2, then its envelopes, then 13.
+pub fn judge(edition: Edition, m: &[u8]) -> Reading
+    ensures { λ r. ⌜ r ≡ judgedAs (reading edition (now (m .entry))) ⌝ }
 {
     if LONGEST < m.len() {
         return refusal(Reason::TooLong, LONGEST);
@@ -60,5 +60,5 @@ pub fn judge(m: &[u8]) -> Reading
     if agreed < HEADER_LENGTH {
         return refusal(Reason::NoMessageHeader, agreed);
     }
-    within_rows(envelopes::walk_envelopes(m))
+    within_rows(envelopes::walk_envelopes(edition, m))
 }

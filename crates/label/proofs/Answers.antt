@@ -12,7 +12,7 @@ use Rattle.label.specs.declared.Reason.{Reason}
 use Rattle.label.specs.declared.Reason.the-variants.{NoRoom}
 use Rattle.label.specs.Bytes.{Bytes}
 use Rattle.label.specs.Limits.{mostRows, rowWidth}
-use Rattle.label.specs.Formats.{Edition}
+use Rattle.label.specs.declared.Edition.{Edition}
 use Rattle.label.specs.Layout.{Row, allNumbers}
 use Rattle.label.specs.Envelope.{Envelope}
 use Rattle.label.specs.Message.{rowsOf, ordinalsOf, numbersOf}

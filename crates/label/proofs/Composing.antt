@@ -13,7 +13,7 @@ use lib.Dec.{ltb}
 use Rattle.label.specs.declared.WriteReason.{WriteReason}
 use Rattle.label.specs.declared.WriteReason.the-variants.{BadRows, NoSuchMessage, NoOutputRoom}
 use Rattle.label.specs.Bytes.{Bytes}
-use Rattle.label.specs.Formats.{Edition}
+use Rattle.label.specs.declared.Edition.{Edition}
 use Rattle.label.specs.Layout.{Item, itemsOf}
 use Rattle.label.specs.Envelope.{Envelope}
 use Rattle.label.specs.Message.{messageParts, rowsOf, ordinalsOf, Good}
@@ -34,19 +34,19 @@ use Rattle.label.proofs.RowItems.{rows-items, same-items, items-same, t
 module _ (edition : Edition) where
   -- two good messages with the same items are the same: both are what the items are rendered to
   pub one-rendered : (m m′ : Bytes) (es es′ : List Envelope) → Good edition m es → Good edition m′ es′ → itemsOf (messageParts es) ≡ itemsOf (messageParts es′) → m ≡ m′
-  one-rendered m m′ es es′ good good′ same = sym (rendered-good edition m es good) ∙ ap (rendered edition) same ∙ rendered-good edition m′ es′ good′
+  one-rendered m m′ es es′ good good′ same = sym (rendered-good edition m es good) ∙ ap rendered same ∙ rendered-good edition m′ es′ good′
 
   -- what is composed is a good message with these items and ordinals
   pub composed-good : (is : List Item) (os : List ℕ) (w : Bytes) → composed edition is os ≡ some w → MessageWith edition is os w
   unfolding composed
-  composed-good is os w says = by (reading edition (rendered edition is)) (reading-so edition (rendered edition is)) says
+  composed-good is os w says = by (reading edition (rendered is)) (reading-so edition (rendered is)) says
     where
-      by : (o : Outcome) → ReadingSo edition (rendered edition is) o → ifSame is os (rendered edition is) o ≡ some w → MessageWith edition is os w
+      by : (o : Outcome) → ReadingSo edition (rendered is) o → ifSame is os (rendered is) o ≡ some w → MessageWith edition is os w
       by (read es) good says = by-items (sameItems (itemsOf (messageParts es)) is && sameOrdinals (ordinalsOf es) os) refl says
         where
-          by-items : (t : Bool) → (sameItems (itemsOf (messageParts es)) is && sameOrdinals (ordinalsOf es) os) ≡ t → cond t (some (rendered edition is)) none ≡ some w → MessageWith edition is os w
+          by-items : (t : Bool) → (sameItems (itemsOf (messageParts es)) is && sameOrdinals (ordinalsOf es) os) ≡ t → cond t (some (rendered is)) none ≡ some w → MessageWith edition is os w
           by-items true same says =
-              let is-written : rendered edition is ≡ w = cc in
+              let is-written : rendered is ≡ w = cc in
               let k = both (sameItems (itemsOf (messageParts es)) is) (sameOrdinals (ordinalsOf es) os) same in
               record {
                 envelopes = es;
@@ -61,7 +61,7 @@ module _ (edition : Edition) where
   good-composed : (is : List Item) (os : List ℕ) (m : Bytes) → MessageWith edition is os m → composed edition is os ≡ some m
   unfolding composed
   good-composed is os m with =
-      let renders : rendered edition is ≡ m = ap (rendered edition) (sym (with .items)) ∙ rendered-good edition m (with .envelopes) (with .good) in
+      let renders : rendered is ≡ m = ap rendered (sym (with .items)) ∙ rendered-good edition m (with .envelopes) (with .good) in
       (λ i. ifSame is os (renders i) (reading edition (renders i)))
       ∙ ap (ifSame is os m) (reading-pass edition m (with .envelopes) (with .good))
       ∙ ap (λ t. cond t (some m) none)

@@ -1,14 +1,16 @@
--- An indicator's two digits and its number tell each other; every format in the list has a number of two digits, and a number that isn't in it no format.
+-- An indicator's two digits and its number tell each other; every format in the list has a number of two digits.
 use Prim.Native.Nat.{ℕ, _+_, _/_, _%_, _<_}
 use mathlib.Core.Path.{_≡_, refl}
 use mathlib.Core.Bool.{Bool, true, false, cond}
 use mathlib.Core.List.{List, [], _∷_}
 use native.Mathlib.Omega.{arith}
-use borrow.Author.Tests.{leb-true, le-leb, ltb-true, eqb-true, ne-eqb}
+use borrow.Author.Tests.{leb-true, le-leb, ltb-true, eqb-true}
 use lib.Dec.{leb, ltb, eqb}
 use Rattle.label.specs.Bytes.{digit, between, every}
 use Rattle.label.specs.Values.{value}
-use Rattle.label.specs.Formats.{Edition, edition2005, Format, formats, unknown, ruleIn, ruleOf}
+use Rattle.label.specs.declared.Edition.{Edition}
+use Rattle.label.specs.declared.Edition.the-variants.{Edition2005, Edition2025}
+use Rattle.label.specs.Formats.{Format, formats, unknown, ruleIn, ruleOf}
 use Rattle.label.specs.Written.{twoDigits}
 use Rattle.label.proofs.Tests.{both, and-both}
 
@@ -41,7 +43,8 @@ digits-two a b ha hb =
 
 -- every number in the list of formats is below 100, so a known format's is
 numbers-small : (edition : Edition) → every (λ (f : Format). ltb (f .number) 100) (formats edition) ≡ true
-numbers-small edition2005 = refl
+numbers-small Edition2005 = refl
+numbers-small Edition2025 = refl
 
 small-by : (n : ℕ) (f : Format) (fs : List Format) (t : Bool) → eqb n (f .number) ≡ t → f .number < 100 → ((ruleIn n fs ≡ unknown → ⊥) → n < 100) → (cond t (f .rule) (ruleIn n fs) ≡ unknown → ⊥) → n < 100
 small-by n f fs true e small later known = let same = eqb-true n (f .number) e in omega arith
@@ -56,21 +59,3 @@ small-in n (f ∷ fs) h known =
 pub known-small : (edition : Edition) (n : ℕ) → (ruleOf edition n ≡ unknown → ⊥) → n < 100
 unfolding ruleOf
 known-small edition n known = small-in n (formats edition) (numbers-small edition) known
-
--- a number that is none of the list is of no format
-abbrev pub NoFormat : ℕ → Type 0
-NoFormat f = ((((((((Unit {0} × (f ≡ 1 → ⊥)) × (f ≡ 2 → ⊥)) × (f ≡ 3 → ⊥)) × (f ≡ 4 → ⊥)) × (f ≡ 5 → ⊥)) × (f ≡ 6 → ⊥)) × (f ≡ 7 → ⊥)) × (f ≡ 9 → ⊥))
-
-pub other-format : (f : ℕ) → NoFormat f → ruleOf edition2005 f ≡ unknown
-unfolding ruleOf
-other-format f none-of =
-    simp (
-      ne-eqb f 1 (none-of .0 .0 .0 .0 .0 .0 .0 .1),
-      ne-eqb f 2 (none-of .0 .0 .0 .0 .0 .0 .1),
-      ne-eqb f 3 (none-of .0 .0 .0 .0 .0 .1),
-      ne-eqb f 4 (none-of .0 .0 .0 .0 .1),
-      ne-eqb f 5 (none-of .0 .0 .0 .1),
-      ne-eqb f 6 (none-of .0 .0 .1),
-      ne-eqb f 7 (none-of .0 .1),
-      ne-eqb f 9 (none-of .1),
-    )

@@ -19,7 +19,9 @@ use Rattle.label.specs.Values.{Version, version02, version96, versionDig
 use Rattle.label.specs.Segments.{Segment, tagged}
 use Rattle.label.specs.Fields.{transport}
 use Rattle.label.specs.Faults.{fieldsFault, elementsFault, wholeFault}
-use Rattle.label.specs.Formats.{Edition, edition2005, textByte, Format, formats, ruleIn, Rule, ruleOf, asFields, asRest, asSegments, asElements, asText, asCounted, unknown}
+use Rattle.label.specs.declared.Edition.{Edition}
+use Rattle.label.specs.declared.Edition.the-variants.{Edition2005, Edition2025}
+use Rattle.label.specs.Formats.{textByte, Format, formats, ruleIn, Rule, ruleOf, asFields, asRest, asSegments, asElements, asText, asCounted, unknown}
 use Rattle.label.specs.Layout.{bytesOf}
 use Rattle.label.specs.Envelope.{Envelope, fields, wholeRest, segments, elements, text, counted, Within}
 use Rattle.label.specs.Written.{twoDigits, parts}
@@ -29,6 +31,7 @@ use Rattle.label.proofs.Tests.{both, and-both, cond-yes, cond-no, or-le
 use Rattle.label.proofs.Splitting.{joined, pieces-of-joined, last-of-terminated, cut-front, every-joined}
 use Rattle.label.proofs.Laid.{segmentBytes, contentBytes, formatOf, bytes-envelope}
 use Rattle.label.proofs.SegmentLaws.{bodyOf, body-bytes, body-pieces, segments-again}
+use Rattle.label.proofs.Editions.{isKnown, each-rule}
 use Rattle.label.proofs.Digits.{two-digits, known-small}
 
 -- Steps of a reading
@@ -92,19 +95,11 @@ Sound asCounted = Unit {0}
 Sound unknown = Unit {0}
 
 rules-sound : (edition : Edition) → Each (λ (f : Format). Sound (f .rule)) (formats edition)
-rules-sound edition2005 = (tt, (tt, (tt, (tt, (tt, (tt, (text-byte-without, (tt, tt))))))))
-
-sound-in : (n : ℕ) (fs : List Format) → Each (λ (f : Format). Sound (f .rule)) fs → Sound (ruleIn n fs)
-sound-in n [] hs = tt
-sound-in n (f ∷ fs) hs = by (eqb n (f .number)) (sound-in n fs (hs .1))
-  where
-    by : (t : Bool) → Sound (ruleIn n fs) → Sound (cond t (f .rule) (ruleIn n fs))
-    by true later = hs .0
-    by false later = later
+rules-sound Edition2005 = (tt, (tt, (tt, (tt, (tt, (tt, (text-byte-without, (tt, tt))))))))
+rules-sound Edition2025 = (tt, (tt, (tt, (tt, (tt, (tt, (text-byte-without, (tt, tt))))))))
 
 pub text-without : (edition : Edition) (f : ℕ) (permitted : ℕ → Bool) → ruleOf edition f ≡ asText permitted → Without RS permitted
-unfolding ruleOf
-text-without edition f permitted known = subst Sound known (sound-in f (formats edition) (rules-sound edition))
+text-without edition f permitted known = subst Sound known (each-rule Sound tt edition f (rules-sound edition))
 
 -- Each shape, behind its indicator
 
@@ -214,15 +209,6 @@ counted-pass edition f t c n payload left w =
     ∙ payload-pass (counted f t c n) payload left
 
 -- Behind any indicator of a known format
-
-abbrev isKnown : Rule → Bool
-isKnown asFields = true
-isKnown (asRest permitted) = true
-isKnown (asSegments isTag) = true
-isKnown (asElements isElement) = true
-isKnown (asText permitted) = true
-isKnown asCounted = true
-isKnown unknown = false
 
 pub indicator-pass : (edition : Edition) (first : Bool) (f : ℕ) (rule : Rule) (bs : Bytes) → ruleOf edition f ≡ rule → isKnown rule ≡ true → readEnvelope edition first (twoDigits f ++ bs) ≡ readBy rule first f bs
 unfolding readEnvelope

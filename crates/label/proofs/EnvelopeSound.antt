@@ -20,7 +20,8 @@ use Rattle.label.specs.Values.{Version, version02, version96, versionDig
 use Rattle.label.specs.Segments.{tagged}
 use Rattle.label.specs.Fields.{transport}
 use Rattle.label.specs.Faults.{fieldsFaultBy, fieldsFault, elementsFault, wholeFault}
-use Rattle.label.specs.Formats.{Edition, Rule, ruleOf, asFields, asRest, asSegments, asElements, asText, asCounted, unknown}
+use Rattle.label.specs.declared.Edition.{Edition}
+use Rattle.label.specs.Formats.{Rule, ruleOf, asFields, asRest, asSegments, asElements, asText, asCounted, unknown}
 use Rattle.label.specs.Layout.{bytesOf}
 use Rattle.label.specs.Envelope.{Envelope, fields, wholeRest, segments, elements, text, counted, Within}
 use Rattle.label.specs.Written.{pieceRow, twoDigits, parts}

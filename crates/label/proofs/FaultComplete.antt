@@ -10,7 +10,8 @@ use Rattle.label.specs.Bytes.{Bytes, GS, RS, every}
 use Rattle.label.specs.Values.{Version, versionDigits}
 use Rattle.label.specs.Fields.{transport}
 use Rattle.label.specs.Faults.{firstFault, elementFault, fieldsFaultBy, fieldsFault, elementsFault}
-use Rattle.label.specs.Formats.{Edition, asFields, asElements}
+use Rattle.label.specs.declared.Edition.{Edition}
+use Rattle.label.specs.Formats.{asFields, asElements}
 use Rattle.label.specs.Layout.{bytesOf}
 use Rattle.label.specs.Envelope.{Envelope, fields, wholeRest, segments, elements, text, counted}
 use Rattle.label.specs.Written.{pieceRow, twoDigits, parts}

@@ -12,7 +12,8 @@ use Rattle.label.specs.declared.Reason.{Reason}
 use Rattle.label.specs.declared.Reason.the-variants.{BodyBreaksRules}
 use Rattle.label.specs.Bytes.{Bytes, RS, isEmpty}
 use Rattle.label.specs.Values.{Version}
-use Rattle.label.specs.Formats.{Edition, ruleOf, asFields}
+use Rattle.label.specs.declared.Edition.{Edition}
+use Rattle.label.specs.Formats.{ruleOf, asFields}
 use Rattle.label.specs.Layout.{bytesOf}
 use Rattle.label.specs.Envelope.{Envelope, fields, wholeRest, segments, elements, text, counted}
 use Rattle.label.specs.Written.{twoDigits, parts}

@@ -4,6 +4,7 @@ pub mod Untouched
 pub mod Tests
 pub mod Splitting
 pub mod Laid
+pub mod Editions
 pub mod Digits
 pub mod SegmentLaws
 pub mod Faults

@@ -9,7 +9,7 @@ use lib.ListN.{length, take, drop, length-append, length-drop}
 use lib.Seq.{take-append-seam, drop-append-seam}
 use lib.Dec.{ltb}
 use Rattle.label.specs.Bytes.{Bytes, EOT, RS}
-use Rattle.label.specs.Formats.{Edition}
+use Rattle.label.specs.declared.Edition.{Edition}
 use Rattle.label.specs.Layout.{Item, Part, mark, item, marks, Row, bytesOf, itemsOf, rowsFrom, separated, ended}
 use Rattle.label.specs.Envelope.{Envelope}
 use Rattle.label.specs.Written.{parts}

@@ -5,7 +5,7 @@ use mathlib.Core.List.{List, [], _∷_, map}
 use native.Mathlib.Omega.{arith}
 use lib.ListN.{length}
 use Rattle.label.specs.Bytes.{Bytes}
-use Rattle.label.specs.Formats.{Edition}
+use Rattle.label.specs.declared.Edition.{Edition}
 use Rattle.label.specs.Layout.{Part, mark, item, Row, rowsFrom, itemsOf}
 use Rattle.label.specs.Envelope.{Envelope}
 use Rattle.label.specs.Message.{messageParts, rowsOf, Good}

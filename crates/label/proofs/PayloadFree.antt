@@ -7,7 +7,7 @@ use native.Mathlib.Omega.{arith}
 use lib.ListN.{length, length-append}
 use Rattle.label.specs.Bytes.{Bytes, EOT, GS, RS, every, isEmpty}
 use Rattle.label.specs.Limits.{longest, mostRows}
-use Rattle.label.specs.Formats.{Edition}
+use Rattle.label.specs.declared.Edition.{Edition}
 use Rattle.label.specs.Layout.{Part, mark, item, marks, Row, bytesOf, itemsOf, rowAt, rowsFrom, separated, ended}
 use Rattle.label.specs.Envelope.{Envelope, counted, Within}
 use Rattle.label.specs.Written.{rowed, indicator, valueRow, bodyRow, parts}

@@ -12,7 +12,7 @@ use Rattle.label.specs.declared.Reason.the-variants.{TooLong, NoMessageH
 use Rattle.label.specs.Bytes.{Bytes, EOT, isEmpty}
 use Rattle.label.specs.Limits.{longest}
 use Rattle.label.specs.Values.{Version}
-use Rattle.label.specs.Formats.{Edition}
+use Rattle.label.specs.declared.Edition.{Edition}
 use Rattle.label.specs.Envelope.{Envelope, fields, wholeRest, segments, elements, text, counted}
 use Rattle.label.specs.Message.{header}
 use Rattle.label.specs.ReadEnvelope.{Step, closed, whole, refuse, refuseAt, readEnvelope}

@@ -10,7 +10,8 @@ use lib.ListN.{length}
 use Rattle.label.specs.declared.Reason.{Reason}
 use Rattle.label.specs.declared.Reason.the-variants.{BodyBreaksRules, NoRoom}
 use Rattle.label.specs.Bytes.{Bytes}
-use Rattle.label.specs.Formats.{Edition, ruleOf, asFields}
+use Rattle.label.specs.declared.Edition.{Edition}
+use Rattle.label.specs.Formats.{ruleOf, asFields}
 use Rattle.label.specs.Layout.{Row, itemsOf}
 use Rattle.label.specs.Envelope.{Envelope, counted}
 use Rattle.label.specs.Written.{twoDigits}

@@ -9,7 +9,7 @@ use lib.ListN.{length, length-append}
 use Rattle.label.specs.declared.Reason.the-variants.{TooLong, TooManyRows}
 use Rattle.label.specs.Bytes.{Bytes, EOT, every}
 use Rattle.label.specs.Limits.{longest, mostRows}
-use Rattle.label.specs.Formats.{Edition}
+use Rattle.label.specs.declared.Edition.{Edition}
 use Rattle.label.specs.Layout.{bytesOf}
 use Rattle.label.specs.Envelope.{Envelope}
 use Rattle.label.specs.Written.{parts}

@@ -11,7 +11,7 @@ use lib.Dec.{eqb, ltb}
 use Rattle.label.specs.declared.Reason.the-variants.{TooLong, NoMessageHeader, TooManyRows}
 use Rattle.label.specs.Bytes.{Bytes, every}
 use Rattle.label.specs.Limits.{longest, mostRows}
-use Rattle.label.specs.Formats.{Edition}
+use Rattle.label.specs.declared.Edition.{Edition}
 use Rattle.label.specs.Envelope.{Envelope}
 use Rattle.label.specs.Message.{header, isRest, isRestAlone, rowsOf, Good}
 use Rattle.label.specs.Place.{GoodButForRows, PlaceFor}

@@ -10,13 +10,15 @@ use lib.ListN.{drop}
 use Rattle.label.specs.Bytes.{Bytes, EOT, FS, GS, RS, US, every, isEmpty}
 use Rattle.label.specs.Values.{versionDigits}
 use Rattle.label.specs.Segments.{Element, Segment, tagged}
-use Rattle.label.specs.Formats.{Edition, ruleOf}
+use Rattle.label.specs.declared.Edition.{Edition}
+use Rattle.label.specs.Formats.{widest, ruleOf}
 use Rattle.label.specs.Layout.{Part, mark, marks, bytesOf, itemsOf, further, separated, ended}
 use Rattle.label.specs.Envelope.{Envelope, fields, wholeRest, segments, elements, text, counted, plainElement, Within}
 use Rattle.label.specs.Written.{indicatorRow, valueRow, pieceRow, tagRow, elementRow, subElementRow, bodyRow, rowed, rowedEach, twoDigits, indicator, elementParts, segmentParts, parts}
 use Rattle.label.specs.Message.{header, isRest, isRestAlone, messageParts, message, Each, Good}
 use Rattle.label.specs.Rendered.{beforeValue, closing, marksBetween, ending, renderedAfter, rendered}
 use Rattle.label.proofs.Tests.{both, and-both, not-true}
+use Rattle.label.proofs.Editions.{known-in-widest}
 use Rattle.label.proofs.Laid.{bytes-append, bytes-marks, formatOf}
 
 items-behind-marks : (ms : Bytes) (ps : List Part) → itemsOf (marks ms ++ ps) ≡ itemsOf ps
@@ -46,27 +48,27 @@ to-end-cons e es = append-assoc (parts e) (mark RS ∷ ended RS (map parts es)) 
 module _ (edition : Edition) where
   -- parts are what is rendered behind a row of a kind in a format, whatever that row's content
   abbrev Behind : ℕ → ℕ → List Part → Type 0
-  Behind p g ps = (bs : Bytes) → bytesOf ps ≡ renderedAfter edition (record { kind = p; format = g; content = bs }) (itemsOf ps)
+  Behind p g ps = (bs : Bytes) → bytesOf ps ≡ renderedAfter (record { kind = p; format = g; content = bs }) (itemsOf ps)
 
   -- a row with the marks that it asks for
-  row-behind : (p g k f : ℕ) (ms bs : Bytes) (tail : List Part) → marksBetween (ruleOf edition f) p k ≡ ms → Behind k f tail → Behind p g (marks ms ++ (rowed k f bs ∷ tail))
+  row-behind : (p g k f : ℕ) (ms bs : Bytes) (tail : List Part) → marksBetween (ruleOf widest f) p k ≡ ms → Behind k f tail → Behind p g (marks ms ++ (rowed k f bs ∷ tail))
   unfolding renderedAfter
   row-behind p g k f ms bs tail asked behind before =
       bytes-append (marks ms) (rowed k f bs ∷ tail)
       ∙ (λ i. (bytes-marks ms ∙ sym asked) i ++ (bs ++ behind bs i))
-      ∙ ap (renderedAfter edition (record { kind = p; format = g; content = before })) (sym (items-behind-marks ms (rowed k f bs ∷ tail)))
+      ∙ ap (renderedAfter (record { kind = p; format = g; content = before })) (sym (items-behind-marks ms (rowed k f bs ∷ tail)))
 
   module _ (f : ℕ) where
     -- rows of one kind, each behind a separator: the first behind a row of kind p, the others behind one another
-    rows-behind : (p k separator : ℕ) (tail : List Part) (pieces : List Bytes) → marksBetween (ruleOf edition f) p k ≡ separator ∷ []
-        → marksBetween (ruleOf edition f) k k ≡ separator ∷ []
+    rows-behind : (p k separator : ℕ) (tail : List Part) (pieces : List Bytes) → marksBetween (ruleOf widest f) p k ≡ separator ∷ []
+        → marksBetween (ruleOf widest f) k k ≡ separator ∷ []
         → Behind p f tail → Behind k f tail → Behind p f (further separator (rowedEach k f pieces) ++ tail)
     rows-behind p k separator tail [] first later none some = none
     rows-behind p k separator tail (bs ∷ pieces) first later none some =
         row-behind p f k f (separator ∷ []) bs (further separator (rowedEach k f pieces) ++ tail) first (rows-behind k k separator tail pieces later later some some)
 
     -- pieces with GS between them, the first behind its own marks
-    pieces-behind : (p : ℕ) (ms bs : Bytes) (pieces : List Bytes) (tail : List Part) → marksBetween (ruleOf edition f) p pieceRow ≡ ms → Behind pieceRow f tail
+    pieces-behind : (p : ℕ) (ms bs : Bytes) (pieces : List Bytes) (tail : List Part) → marksBetween (ruleOf widest f) p pieceRow ≡ ms → Behind pieceRow f tail
         → Behind p f (marks ms ++ (separated GS (rowedEach pieceRow f (bs ∷ pieces)) ++ tail))
     unfolding marksBetween
     pieces-behind p ms bs pieces tail asked behind =
@@ -90,7 +92,7 @@ module _ (edition : Edition) where
         (row-behind p f elementRow f (GS ∷ []) s (further US (rowedEach subElementRow f ss) ++ (later ++ tail)) refl
         (rows-behind elementRow subElementRow US (later ++ tail) ss refl refl (next elementRow (omega arith) (omega arith)) (next subElementRow (omega arith) (omega arith))))
 
-    segment-behind : (p : ℕ) (ms : Bytes) (isTag : Bytes → Bool) (s : Segment) (tail : List Part) → marksBetween (ruleOf edition f) p tagRow ≡ ms
+    segment-behind : (p : ℕ) (ms : Bytes) (isTag : Bytes → Bool) (s : Segment) (tail : List Part) → marksBetween (ruleOf widest f) p tagRow ≡ ms
         → every plainElement s ≡ true → tagged isTag s ≡ true → BehindSegment tail → Behind p f (marks ms ++ (segmentParts f s ++ tail))
     unfolding tagged
     segment-behind p ms isTag [] tail asked plains tag behind = absurd (false≢true tag)
@@ -129,9 +131,9 @@ module _ (edition : Edition) where
       → Behind indicatorRow (formatOf e) (inner e ++ (mark RS ∷ rest))
   unfolding parts marksBetween
   envelope-behind (fields f v []) rest w closed behind =
-      row-behind indicatorRow f valueRow f (GS ∷ []) (versionDigits v) (mark RS ∷ rest) (ap beforeValue (w .known)) (behind valueRow)
+      row-behind indicatorRow f valueRow f (GS ∷ []) (versionDigits v) (mark RS ∷ rest) (ap beforeValue (known-in-widest edition f _ (w .known) refl)) (behind valueRow)
   envelope-behind (fields f v (p ∷ ps)) rest w closed behind =
-      row-behind indicatorRow f valueRow f (GS ∷ []) (versionDigits v) (separated GS (rowedEach pieceRow f (p ∷ ps)) ++ (mark RS ∷ rest)) (ap beforeValue (w .known))
+      row-behind indicatorRow f valueRow f (GS ∷ []) (versionDigits v) (separated GS (rowedEach pieceRow f (p ∷ ps)) ++ (mark RS ∷ rest)) (ap beforeValue (known-in-widest edition f _ (w .known) refl))
       (pieces-behind f valueRow [] p ps (mark RS ∷ rest) refl (behind pieceRow))
   envelope-behind (wholeRest f body) rest w closed behind = absurd (true≢false closed)
   envelope-behind (segments f h []) rest w closed behind = absurd (true≢false (w .oneOrMore))
@@ -140,7 +142,7 @@ module _ (edition : Edition) where
       let k = both (every plainElement s) (every (every plainElement) ss) (w .plainBytes) in
       let l = both (tagged (w .isTag) s) (every (tagged (w .isTag)) ss) (w .allTagged) in
       subst⁻¹ (λ (ps : List Part). Behind indicatorRow f (rowed valueRow f h ∷ mark FS ∷ mark GS ∷ mark US ∷ ps)) (append-assoc (segmentParts f s) later (mark RS ∷ rest))
-      (row-behind indicatorRow f valueRow f [] h (mark FS ∷ mark GS ∷ mark US ∷ (segmentParts f s ++ (later ++ (mark RS ∷ rest)))) (ap beforeValue (w .known))
+      (row-behind indicatorRow f valueRow f [] h (mark FS ∷ mark GS ∷ mark US ∷ (segmentParts f s ++ (later ++ (mark RS ∷ rest)))) (ap beforeValue (known-in-widest edition f _ (w .known) refl))
       (segment-behind f valueRow (FS ∷ GS ∷ US ∷ []) (w .isTag) s (later ++ (mark RS ∷ rest)) refl (k .left) (l .left)
       (segments-behind f (w .isTag) ss (mark RS ∷ rest) (k .right) (l .right) (segment-closes f rest behind))))
   envelope-behind (elements f []) rest w closed behind = absurd (true≢false (w .oneOrMore))
@@ -148,19 +150,19 @@ module _ (edition : Edition) where
   envelope-behind (text f body) rest w closed behind = row-behind indicatorRow f bodyRow f [] body (mark RS ∷ rest) refl (behind bodyRow)
   envelope-behind (counted f t c n payload) rest w closed behind =
       let body = mark GS ∷ rowed bodyRow f payload ∷ mark RS ∷ rest in
-      row-behind indicatorRow f valueRow f (GS ∷ []) t (mark GS ∷ rowed valueRow f c ∷ mark GS ∷ rowed valueRow f n ∷ body) (ap beforeValue (w .known))
-      (row-behind valueRow f valueRow f (GS ∷ []) c (mark GS ∷ rowed valueRow f n ∷ body) (ap beforeValue (w .known))
-      (row-behind valueRow f valueRow f (GS ∷ []) n body (ap beforeValue (w .known))
+      row-behind indicatorRow f valueRow f (GS ∷ []) t (mark GS ∷ rowed valueRow f c ∷ mark GS ∷ rowed valueRow f n ∷ body) (ap beforeValue (known-in-widest edition f _ (w .known) refl))
+      (row-behind valueRow f valueRow f (GS ∷ []) c (mark GS ∷ rowed valueRow f n ∷ body) (ap beforeValue (known-in-widest edition f _ (w .known) refl))
+      (row-behind valueRow f valueRow f (GS ∷ []) n body (ap beforeValue (known-in-widest edition f _ (w .known) refl))
       (row-behind valueRow f bodyRow f (GS ∷ []) payload (mark RS ∷ rest) refl (behind bodyRow))))
 
   -- the format of an envelope that doesn't take all the rest asks for the message's end
-  ends : (e : Envelope) → Within edition e → isRest e ≡ false → (k : ℕ) → ending (ruleOf edition (formatOf e)) k ≡ closing k ++ (EOT ∷ [])
-  ends (fields f v fs) w closed k = ap (λ r. ending r k) (w .known)
+  ends : (e : Envelope) → Within edition e → isRest e ≡ false → (k : ℕ) → ending (ruleOf widest (formatOf e)) k ≡ closing k ++ (EOT ∷ [])
+  ends (fields f v fs) w closed k = ap (λ r. ending r k) (known-in-widest edition f _ (w .known) refl)
   ends (wholeRest f body) w closed k = absurd (true≢false closed)
-  ends (segments f h ss) w closed k = ap (λ r. ending r k) (w .known)
-  ends (elements f es) w closed k = ap (λ r. ending r k) (w .known)
-  ends (text f body) w closed k = ap (λ r. ending r k) (w .known)
-  ends (counted f t c n payload) w closed k = ap (λ r. ending r k) (w .known)
+  ends (segments f h ss) w closed k = ap (λ r. ending r k) (known-in-widest edition f _ (w .known) refl)
+  ends (elements f es) w closed k = ap (λ r. ending r k) (known-in-widest edition f _ (w .known) refl)
+  ends (text f body) w closed k = ap (λ r. ending r k) (known-in-widest edition f _ (w .known) refl)
+  ends (counted f t c n payload) w closed k = ap (λ r. ending r k) (known-in-widest edition f _ (w .known) refl)
 
   -- what follows an envelope, to the message's end
   envelopes-behind : (e : Envelope) (es : List Envelope) → Each (Within edition) (e ∷ es) → every (λ e. not (isRest e)) (e ∷ es) ≡ true → BehindEnvelope (formatOf e) (toEnd es)
@@ -170,7 +172,7 @@ module _ (edition : Edition) where
       bytes-append (marks (closing k)) (mark EOT ∷ [])
       ∙ ap (λ ms. ms ++ (EOT ∷ [])) (bytes-marks (closing k))
       ∙ sym (ends e (within .0) (not-true (isRest e) (c .left)) k)
-      ∙ ap (renderedAfter edition (record { kind = k; format = formatOf e; content = before })) (sym (items-behind-marks (closing k) (mark EOT ∷ [])))
+      ∙ ap (renderedAfter (record { kind = k; format = formatOf e; content = before })) (sym (items-behind-marks (closing k) (mark EOT ∷ [])))
   envelopes-behind e (e′ ∷ es) within closed k before =
       let c = both (not (isRest e)) (every (λ e. not (isRest e)) (e′ ∷ es)) closed in
       let c′ = both (not (isRest e′)) (every (λ e. not (isRest e)) es) (c .right) in
@@ -180,37 +182,37 @@ module _ (edition : Edition) where
 
   -- a message that ends with EOT, and one whose envelope takes all the rest
   closed-rendered : (e : Envelope) (es : List Envelope) → Each (Within edition) (e ∷ es) → every (λ e. not (isRest e)) (e ∷ es) ≡ true
-      → rendered edition (itemsOf (marks header ++ toEnd (e ∷ es))) ≡ bytesOf (marks header ++ toEnd (e ∷ es))
+      → rendered (itemsOf (marks header ++ toEnd (e ∷ es))) ≡ bytesOf (marks header ++ toEnd (e ∷ es))
   unfolding rendered
   closed-rendered e es within closed =
       let c = both (not (isRest e)) (every (λ e. not (isRest e)) es) closed in
-      subst⁻¹ (λ (ps : List Part). rendered edition (itemsOf (marks header ++ ps)) ≡ bytesOf (marks header ++ ps)) (to-end-cons e es)
+      subst⁻¹ (λ (ps : List Part). rendered (itemsOf (marks header ++ ps)) ≡ bytesOf (marks header ++ ps)) (to-end-cons e es)
       (ap (λ r. header ++ (twoDigits (formatOf e) ++ r))
       (sym (envelope-behind e (toEnd es) (within .0) (not-true (isRest e) (c .left)) (envelopes-behind e es within closed) (twoDigits (formatOf e)))))
 
-  alone-rendered : (e : Envelope) → Within edition e → isRest e ≡ true → rendered edition (itemsOf (marks header ++ (parts e ++ []))) ≡ bytesOf (marks header ++ (parts e ++ []))
+  alone-rendered : (e : Envelope) → Within edition e → isRest e ≡ true → rendered (itemsOf (marks header ++ (parts e ++ []))) ≡ bytesOf (marks header ++ (parts e ++ []))
   unfolding rendered renderedAfter marksBetween parts
   alone-rendered (fields f v fs) w is = absurd (false≢true is)
-  alone-rendered (wholeRest f body) w is = ap (λ r. header ++ (twoDigits f ++ (body ++ ending r bodyRow))) (w .known)
+  alone-rendered (wholeRest f body) w is = ap (λ r. header ++ (twoDigits f ++ (body ++ ending r bodyRow))) (known-in-widest edition f _ (w .known) refl)
   alone-rendered (segments f h ss) w is = absurd (false≢true is)
   alone-rendered (elements f es) w is = absurd (false≢true is)
   alone-rendered (text f body) w is = absurd (false≢true is)
   alone-rendered (counted f t c n payload) w is = absurd (false≢true is)
 
   by-place : (es : List Envelope) (t : Bool) → isRestAlone es ≡ t → isEmpty es ≡ false → Each (Within edition) es → (t || every (λ e. not (isRest e)) es) ≡ true
-      → rendered edition (itemsOf (messageParts es)) ≡ message es
+      → rendered (itemsOf (messageParts es)) ≡ message es
   unfolding message messageParts
   by-place [] t is some within or = absurd (true≢false some)
   by-place (e ∷ []) true is some within or =
-      subst⁻¹ (λ (b : Bool). rendered edition (itemsOf (marks header ++ cond b (parts e ++ []) (toEnd (e ∷ []))))
+      subst⁻¹ (λ (b : Bool). rendered (itemsOf (marks header ++ cond b (parts e ++ []) (toEnd (e ∷ []))))
       ≡ bytesOf (marks header ++ cond b (parts e ++ []) (toEnd (e ∷ [])))) is
       (alone-rendered e (within .0) is)
   by-place (e ∷ (e′ ∷ es)) true is some within or = absurd (false≢true is)
   by-place (e ∷ es) false is some within or =
-      subst⁻¹ (λ (b : Bool). rendered edition (itemsOf (marks header ++ cond b (separated RS (map parts (e ∷ es))) (toEnd (e ∷ es))))
+      subst⁻¹ (λ (b : Bool). rendered (itemsOf (marks header ++ cond b (separated RS (map parts (e ∷ es))) (toEnd (e ∷ es))))
       ≡ bytesOf (marks header ++ cond b (separated RS (map parts (e ∷ es))) (toEnd (e ∷ es)))) is
       (closed-rendered e es within or)
 
 -- the items of a good message are rendered to that message
-pub rendered-good : (edition : Edition) (m : Bytes) (es : List Envelope) → Good edition m es → rendered edition (itemsOf (messageParts es)) ≡ m
+pub rendered-good : (edition : Edition) (m : Bytes) (es : List Envelope) → Good edition m es → rendered (itemsOf (messageParts es)) ≡ m
 rendered-good edition m es good = by-place edition es (isRestAlone es) refl (good .oneOrMore) (good .within) (good .onlyAlone) ∙ good .writesOut

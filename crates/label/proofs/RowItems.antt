@@ -11,7 +11,7 @@ use lib.Seq.{take-append-seam, drop-append-seam, drop-drop, take-at}
 use lib.Dec.{eqb}
 use Rattle.label.specs.Bytes.{Bytes, every, sameBytes}
 use Rattle.label.specs.Limits.{mostRows, rowWidth}
-use Rattle.label.specs.Formats.{Edition}
+use Rattle.label.specs.declared.Edition.{Edition}
 use Rattle.label.specs.Layout.{Item, Part, mark, item, Row, bytesOf, itemsOf, rowsFrom, allNumbers}
 use Rattle.label.specs.Envelope.{Envelope}
 use Rattle.label.specs.Message.{messageParts, message, rowsOf, ordinalsOf, numbersOf, Each, Good}

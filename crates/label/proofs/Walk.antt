@@ -8,7 +8,7 @@ use native.Mathlib.Omega.{arith}
 use lib.ListN.{length}
 use lib.Dec.{eqb}
 use Rattle.label.specs.Bytes.{Bytes, EOT}
-use Rattle.label.specs.Formats.{Edition}
+use Rattle.label.specs.declared.Edition.{Edition}
 use Rattle.label.specs.ReadEnvelope.{Step, closed, whole, refuse, refuseAt, readEnvelope}
 use Rattle.label.specs.ReadMessage.{Outcome, andThen, afterTrailer, atBoundary, follow, walk, unboundedWalk}
 use Rattle.label.proofs.EnvelopeSound.{StepSo, step-so}

@@ -12,7 +12,7 @@ use Rattle.label.specs.declared.WriteReason.{WriteReason}
 use Rattle.label.specs.declared.WriteReason.the-variants.{BadRows, NoSuchMessage, NoOutputRoom}
 use Rattle.label.specs.Bytes.{Bytes}
 use Rattle.label.specs.Limits.{rowWidth}
-use Rattle.label.specs.Formats.{Edition}
+use Rattle.label.specs.declared.Edition.{Edition}
 use Rattle.label.specs.Layout.{itemsOf}
 use Rattle.label.specs.Envelope.{Envelope}
 use Rattle.label.specs.Message.{messageParts, rowsOf, ordinalsOf, numbersOf, Good}

@@ -10,7 +10,7 @@ use Rattle.label.specs.declared.Reading.{Reading}
 use Rattle.label.specs.declared.Reading.the-variants.{Accepted, Refused}
 use Rattle.label.specs.Bytes.{Bytes}
 use Rattle.label.specs.Limits.{mostRows, rowWidth}
-use Rattle.label.specs.Formats.{Edition}
+use Rattle.label.specs.declared.Edition.{Edition}
 use Rattle.label.specs.Layout.{Row, numbers, allNumbers}
 use Rattle.label.specs.Message.{rowsOf, ordinalsOf, numbersOf}
 use Rattle.label.specs.ReadMessage.{Outcome, read, refused, reading}

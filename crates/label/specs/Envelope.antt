@@ -9,7 +9,8 @@ use Rattle.label.specs.Bytes.{Bytes, plain, every, isEmpty}
 use Rattle.label.specs.Values.{Version, release, payloadType, compression, count, value}
 use Rattle.label.specs.Segments.{Segment, tagged}
 use Rattle.label.specs.Fields.{transport}
-use Rattle.label.specs.Formats.{Edition, ruleOf, asFields, asRest, asSegments, asElements, asText, asCounted}
+use Rattle.label.specs.declared.Edition.{Edition}
+use Rattle.label.specs.Formats.{ruleOf, asFields, asRest, asSegments, asElements, asText, asCounted}
 
 pub data Envelope : Type 0 where
   -- 01: format, version and fields

@@ -1,8 +1,10 @@
 -- Which formats there are, and what each one's body is made of (01, Envelope rules).
 use Prim.Native.Nat.{ℕ}
 use mathlib.Core.Bool.{Bool, not, _&&_, cond}
-use mathlib.Core.List.{List, [], _∷_}
+use mathlib.Core.List.{List, [], _∷_, _++_}
 use lib.Dec.{eqb}
+use Rattle.label.specs.declared.Edition.{Edition}
+use Rattle.label.specs.declared.Edition.the-variants.{Edition2005, Edition2025}
 use Rattle.label.specs.Bytes.{Bytes, EOT, RS, control, below80}
 use Rattle.label.specs.Elements.{element05, element06}
 use Rattle.label.specs.Segments.{tag, tag03}
@@ -15,10 +17,6 @@ restByte b = below80 b && not (eqb b RS) && not (eqb b EOT)
 -- 07: below 80, none of the five control bytes
 unfoldable pub textByte : ℕ → Bool
 textByte b = below80 b && not (control b)
-
--- which formats are in force
-pub data Edition : Type 0 where
-  edition2005 : Edition
 
 -- what a body is made of: transport fields, all the rest of the message, segments, elements, text, or a counted payload; with the rule
 -- for a byte, a tag or an element where formats differ in it
@@ -38,9 +36,9 @@ pub record Format : Type 0 where
 abbrev pub _is_ : ℕ → Rule → Format
 n is r = record { number = n; rule = r }
 
--- the list of formats
-abbrev pub formats : Edition → List Format
-formats edition2005 =
+-- the list of formats (001, table 1)
+abbrev pub formats2005 : List Format
+formats2005 =
     1 is asFields
     ∷ 2 is asRest restByte
     ∷ 3 is asSegments tag03
@@ -50,6 +48,19 @@ formats edition2005 =
     ∷ 7 is asText textByte
     ∷ 9 is asCounted
     ∷ []
+
+-- what an edition adds to it (02, No. 3)
+abbrev pub added : Edition → List Format
+added Edition2005 = []
+added Edition2025 = []
+
+-- the formats of an edition; those of 2005 keep their rules in both
+abbrev pub formats : Edition → List Format
+formats edition = formats2005 ++ added edition
+
+-- the edition that has every format of the others, by which rows are laid out and walked over; only judging goes by the one that is picked
+abbrev pub widest : Edition
+widest = Edition2025
 
 abbrev pub ruleIn : ℕ → List Format → Rule
 ruleIn n [] = unknown

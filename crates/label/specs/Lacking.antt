@@ -12,7 +12,8 @@ use Rattle.label.specs.Limits.{longAs, limitOf}
 use Rattle.label.specs.Values.{Version, versionDigits}
 use Rattle.label.specs.Fields.{fieldBytes, versionRow, leastFields, fieldsFrom}
 use Rattle.label.specs.Faults.{leftOut, countFits}
-use Rattle.label.specs.Formats.{Edition, ruleOf, asFields, asElements}
+use Rattle.label.specs.declared.Edition.{Edition}
+use Rattle.label.specs.Formats.{ruleOf, asFields, asElements}
 use Rattle.label.specs.Layout.{mark, bytesOf, ended}
 use Rattle.label.specs.Envelope.{Envelope, fields, wholeRest, segments, elements, text, counted}
 use Rattle.label.specs.Written.{pieceRow, valueRow, rowed, rowedEach, indicator}

@@ -6,7 +6,7 @@ use mathlib.Core.List.{List, [], _∷_, _++_, map}
 use lib.ListN.{length}
 use Rattle.label.specs.Bytes.{Bytes, ascii, EOT, RS, every, isEmpty}
 use Rattle.label.specs.Limits.{longest, mostRows}
-use Rattle.label.specs.Formats.{Edition}
+use Rattle.label.specs.declared.Edition.{Edition}
 use Rattle.label.specs.Layout.{Part, mark, marks, Row, bytesOf, itemsOf, rowsFrom, allNumbers, separated, ended}
 use Rattle.label.specs.Envelope.{Envelope, fields, wholeRest, segments, elements, text, counted, Within}
 use Rattle.label.specs.Written.{parts}

@@ -3,7 +3,7 @@ use Prim.Native.Nat.{ℕ, zero, suc}
 use mathlib.Core.List.{List, [], _∷_}
 use Rattle.label.specs.declared.Stretch.{Stretch}
 use Rattle.label.specs.Bytes.{Bytes}
-use Rattle.label.specs.Formats.{Edition}
+use Rattle.label.specs.declared.Edition.{Edition}
 use Rattle.label.specs.Layout.{Row}
 use Rattle.label.specs.ReadMessage.{reading}
 use Rattle.label.specs.Answer.{rowsRead}

@@ -10,7 +10,8 @@ use Rattle.label.specs.declared.Stretch.{Stretch}
 use Rattle.label.specs.declared.Reason.the-variants.{BodyBreaksRules, NoRoom}
 use Rattle.label.specs.Bytes.{Bytes, RS}
 use Rattle.label.specs.Limits.{rowWidth}
-use Rattle.label.specs.Formats.{Edition, Rule, asFields, asRest, asSegments, asElements, asText, asCounted, unknown}
+use Rattle.label.specs.declared.Edition.{Edition}
+use Rattle.label.specs.Formats.{Rule, asFields, asRest, asSegments, asElements, asText, asCounted, unknown}
 use Rattle.label.specs.Layout.{Item, Row, bytesOf, itemsOf}
 use Rattle.label.specs.Envelope.{Envelope, counted}
 use Rattle.label.specs.Written.{parts}

@@ -17,7 +17,8 @@ use Rattle.label.specs.Values.{Version, version02, version96, versionDig
 use Rattle.label.specs.Segments.{Segment, tagged}
 use Rattle.label.specs.Fields.{transport}
 use Rattle.label.specs.Faults.{fieldsFault, elementsFault, wholeFault}
-use Rattle.label.specs.Formats.{Edition, Rule, ruleOf, asFields, asRest, asSegments, asElements, asText, asCounted, unknown}
+use Rattle.label.specs.declared.Edition.{Edition}
+use Rattle.label.specs.Formats.{Rule, ruleOf, asFields, asRest, asSegments, asElements, asText, asCounted, unknown}
 use Rattle.label.specs.Envelope.{Envelope, fields, wholeRest, segments, elements, text, counted}
 
 -- an envelope and what follows its RS; an envelope that takes all the rest; a refusal at the indicator; or one where the last bytes begin

@@ -8,7 +8,7 @@ use Rattle.label.specs.declared.Reason.{Reason}
 use Rattle.label.specs.declared.Reason.the-variants.{TooLong, NoMessageHeader, NoIndicator, NoTrailer, BytesAfterTrailer, TooManyRows}
 use Rattle.label.specs.Bytes.{Bytes, EOT}
 use Rattle.label.specs.Limits.{longest, mostRows}
-use Rattle.label.specs.Formats.{Edition}
+use Rattle.label.specs.declared.Edition.{Edition}
 use Rattle.label.specs.Envelope.{Envelope}
 use Rattle.label.specs.Message.{header, rowsOf}
 use Rattle.label.specs.ReadEnvelope.{Step, closed, whole, refuse, refuseAt, readEnvelope}

@@ -1,11 +1,11 @@
 -- The one message that a list of items can have: between two items stand the marks that their kinds and formats ask for. It is laid out whatever
--- the items are; whether it is good is another question.
+-- the items are, by the widest list of formats; whether it is good, in the edition that is picked, is another question.
 use Prim.Native.Nat.{ℕ}
 use mathlib.Core.Bool.{_&&_, cond}
 use mathlib.Core.List.{List, [], _∷_, _++_}
 use lib.Dec.{leb, eqb}
 use Rattle.label.specs.Bytes.{Bytes, EOT, FS, GS, RS, US}
-use Rattle.label.specs.Formats.{Edition, Rule, ruleOf, asFields, asRest, asSegments, asElements, asText, asCounted, unknown}
+use Rattle.label.specs.Formats.{Rule, widest, ruleOf, asFields, asRest, asSegments, asElements, asText, asCounted, unknown}
 use Rattle.label.specs.Layout.{Item}
 use Rattle.label.specs.Written.{indicatorRow, valueRow, pieceRow, tagRow, elementRow, subElementRow}
 use Rattle.label.specs.Message.{header}
@@ -47,10 +47,10 @@ ending asCounted p = closing p ++ (EOT ∷ [])
 ending unknown p = closing p ++ (EOT ∷ [])
 
 -- the bytes behind an item
-unfoldable pub renderedAfter : Edition → Item → List Item → Bytes
-renderedAfter edition i [] = ending (ruleOf edition (i .format)) (i .kind)
-renderedAfter edition i (j ∷ js) = marksBetween (ruleOf edition (j .format)) (i .kind) (j .kind) ++ (j .content ++ renderedAfter edition j js)
+unfoldable pub renderedAfter : Item → List Item → Bytes
+renderedAfter i [] = ending (ruleOf widest (i .format)) (i .kind)
+renderedAfter i (j ∷ js) = marksBetween (ruleOf widest (j .format)) (i .kind) (j .kind) ++ (j .content ++ renderedAfter j js)
 
-unfoldable pub rendered : Edition → List Item → Bytes
-rendered edition [] = header
-rendered edition (i ∷ is) = header ++ (i .content ++ renderedAfter edition i is)
+unfoldable pub rendered : List Item → Bytes
+rendered [] = header
+rendered (i ∷ is) = header ++ (i .content ++ renderedAfter i is)

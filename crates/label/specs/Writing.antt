@@ -11,7 +11,7 @@ use Rattle.label.specs.declared.Writing.{Writing}
 use Rattle.label.specs.declared.Writing.the-variants.{Written, Declined}
 use Rattle.label.specs.Bytes.{Bytes, every, sameBytes}
 use Rattle.label.specs.Limits.{mostRows, rowWidth}
-use Rattle.label.specs.Formats.{Edition}
+use Rattle.label.specs.declared.Edition.{Edition}
 use Rattle.label.specs.Layout.{Item, Row, itemsOf}
 use Rattle.label.specs.Message.{messageParts, ordinalsOf}
 use Rattle.label.specs.ReadMessage.{Outcome, read, refused, reading}
@@ -71,7 +71,7 @@ ifSame is os m (read es) = cond (sameItems (itemsOf (messageParts es)) is && sam
 ifSame is os m (refused reason place) = none
 
 unfoldable pub composed : Edition → List Item → List ℕ → Option Bytes
-composed edition is os = ifSame is os (rendered edition is) (reading edition (rendered edition is))
+composed edition is os = ifSame is os (rendered is) (reading edition (rendered is))
 
 -- the message that is written, or why none is
 pub data Composition : Type 0 where

@@ -11,6 +11,12 @@ pub const ROW: usize = 5;
 
 pub const TABLE: usize = ROW * MOST_ROWS;
 
+// Which edition of the standard a message is read or written in: the caller picks it (02, No. 3). `formats` of specs/Formats has each one's.
+pub enum Edition {
+    Edition2005,
+    Edition2025,
+}
+
 // `[)>` RS, in front of every message, and its length.
 pub const HEADER_LENGTH: usize = 4;
 

@@ -14,9 +14,9 @@ use Rattle.label.specs.declared.Counts.{Counts}
 use Rattle.label.specs.declared.Reading.the-variants.{Accepted}
 use Rattle.label.specs.declared.Reason.the-variants.{TooManyRows, NoRoom}
 use Rattle.label.specs.declared.Stretch.{Stretch}
+use Rattle.label.specs.declared.Edition.{Edition}
 use Rattle.label.specs.Bytes.{Bytes}
 use Rattle.label.specs.Limits.{mostRows}
-use Rattle.label.specs.Formats.{edition2005}
 use Rattle.label.specs.Layout.{Row, allNumbers}
 use Rattle.label.specs.Message.{rowsOf, ordinalsOf}
 use Rattle.label.specs.ReadMessage.{Outcome, read, refused, reading}
@@ -57,12 +57,12 @@ note-append (r ∷ rs) rs′ = ap (λ ns. r .kind ∷ r .format ∷ r .start ∷
 held-numbers : (ns : List ℕ) (at : ℕ) (r : Row) → at + noteWidth ≤ length ns → Holds ns at r → take noteWidth (drop at ns) ≡ noteNumbers (r ∷ [])
 held-numbers ns at r fits holds = ap (take noteWidth) (four-there ns at fits) ∙ (λ i. holds .kind i ∷ holds .format i ∷ holds .start i ∷ holds .length i ∷ [])
 
-module _ (m : Bytes) where
+module _ (edition : Edition) (m : Bytes) where
   abbrev all : List Row
-  all = rowsRead (reading edition2005 m)
+  all = rowsRead (reading edition m)
 
   pub yields-after : (i : ℕ) → i ≤ length all → Yields m (cursorAfter m i) (drop i all)
-  yields-after zero within = walked m .yields
+  yields-after zero within = walked edition m .yields
   yields-after (suc i) within =
       subst (λ (n : ℕ). Yields m (cursorAfter m (suc i)) (drop n all)) (add-one i) (yields-next m all (cursorAfter m i) i (yields-after i (omega arith)) (omega arith))
 
@@ -91,12 +91,12 @@ module _ (m : Bytes) where
     all-noted = ap rowsNoted (noted-up-to rows (omega arith)) ∙ noted-back (take rows all) ∙ take-all rows all (omega (arith, counted))
 
   -- the only row that is noted
-  pub noted-lies : (notes : List ℕ) (rows row : ℕ) → Kept m row notes rows → noteWidth ≤ length notes → row < rows → rows ≡ length all → Lies m row (getD notes 2 0) (getD notes 3 0)
+  pub noted-lies : (notes : List ℕ) (rows row : ℕ) → Kept m row notes rows → noteWidth ≤ length notes → row < rows → rows ≡ length all → Lies edition m row (getD notes 2 0) (getD notes 3 0)
   noted-lies notes rows row kept fits less counted =
       let here : row + 0 ≡ row = omega arith in
       let holds : Holds notes 0 (rowOf (cursorAfter m row)) = subst (λ (n : ℕ). Holds notes 0 (rowOf (cursorAfter m n))) here (kept 0 (omega arith) (omega arith)) in
-      let lies = lies-here m (cursorAfter m row) row (yields-after row (omega (arith, counted))) (omega (arith, counted)) in
-      subst (λ (s : ℕ). Lies m row s (getD notes 3 0)) (sym (holds .start)) (subst (λ (l : ℕ). Lies m row (cursorAfter m row .start) l) (sym (holds .length)) lies)
+      let lies = lies-here edition m (cursorAfter m row) row (yields-after row (omega (arith, counted))) (omega (arith, counted)) in
+      subst (λ (s : ℕ). Lies edition m row s (getD notes 3 0)) (sym (holds .start)) (subst (λ (l : ℕ). Lies edition m row (cursorAfter m row .start) l) (sym (holds .length)) lies)
 
 -- the ordinals of rows that are noted, by the envelopes that were counted, are those of the reading
 ordinals-noted : (o : Outcome) (counts : Counts) → judgedAs o ≡ Accepted counts → ordinalsNoted (counts .envelopes) (rowsRead o) ≡ ordinalsRead o
@@ -110,15 +110,15 @@ ordinals-noted (read es) counts says =
 ordinals-noted (refused r p) counts says = let z : _≡_ {A = ℕ} 0 1 = cc in absurd (omega arith)
 
 -- what becomes of the notes of a swept message is what becomes of its rows
-pub handed-so : (m : Bytes) (counts : Counts) (notes table : List ℕ) → Handed m counts notes
-    → Told m table (tableFrom (counts .envelopes) (take (noteWidth * counts .rows) notes) table) (answerFrom (counts .envelopes) (take (noteWidth * counts .rows) notes) (roomOf table))
-handed-so m counts notes table handed =
-    let all = rowsRead (reading edition2005 m) in
-    let many = rows-judged m counts (handed .judged) in
-    let rows = all-noted m notes (counts .rows) (handed .kept) (handed .roomy) many in
-    let few = le-ltb mostRows (length all) (rows-few edition2005 m) in
-    let os = ordinals-noted (reading edition2005 m) counts (handed .judged) in
-    let so = is-accepted m table counts (handed .judged) in
+pub handed-so : (edition : Edition) (m : Bytes) (counts : Counts) (notes table : List ℕ) → Handed edition m counts notes
+    → Told edition m table (tableFrom (counts .envelopes) (take (noteWidth * counts .rows) notes) table) (answerFrom (counts .envelopes) (take (noteWidth * counts .rows) notes) (roomOf table))
+handed-so edition m counts notes table handed =
+    let all = rowsRead (reading edition m) in
+    let many = rows-judged edition m counts (handed .judged) in
+    let rows = all-noted edition m notes (counts .rows) (handed .kept) (handed .roomy) many in
+    let few = le-ltb mostRows (length all) (rows-few edition m) in
+    let os = ordinals-noted (reading edition m) counts (handed .judged) in
+    let so = is-accepted edition m table counts (handed .judged) in
     record {
       answered-so =
           (λ j. cond (ltb mostRows (length (rows j))) (refusal TooManyRows 0) (cond (ltb (roomOf table) (length (rows j))) (refusal NoRoom 0) (accepted (counts .envelopes) (length (rows j)))))
@@ -129,21 +129,21 @@ handed-so m counts notes table handed =
     }
 
 -- likewise of the note of its only row
-pub lies-as-noted : (m : Bytes) (row rows : ℕ) (note : List ℕ) → OneKept m row rows note → Lies m row (stretchFrom row rows note .start) (stretchFrom row rows note .length)
-lies-as-noted m row rows note kept = by (ltb row rows) refl where
+pub lies-as-noted : (edition : Edition) (m : Bytes) (row rows : ℕ) (note : List ℕ) → OneKept edition m row rows note → Lies edition m row (stretchFrom row rows note .start) (stretchFrom row rows note .length)
+lies-as-noted edition m row rows note kept = by (ltb row rows) refl where
   by : (less : Bool) → ltb row rows ≡ less
-      → (let s = cond {A = Stretch} less (record { start = getD note 2 0; length = getD note 3 0 }) (record { start = 0; length = 0 }) in Lies m row (s .start) (s .length))
-  by true is = noted-lies m note rows row (kept .kept) (kept .one) (ltb-true row rows is) (kept .counted)
-  by false is = lies-nowhere m row (omega (arith, kept .counted, ltb-false row rows is))
+      → (let s = cond {A = Stretch} less (record { start = getD note 2 0; length = getD note 3 0 }) (record { start = 0; length = 0 }) in Lies edition m row (s .start) (s .length))
+  by true is = noted-lies edition m note rows row (kept .kept) (kept .one) (ltb-true row rows is) (kept .counted)
+  by false is = lies-nowhere edition m row (omega (arith, kept .counted, ltb-false row rows is))
 
 -- a swept message is handed over, if the notes have room for all rows that were asked for
-pub handed : (m : Bytes) (most : ℕ) (notes : List ℕ) (r : Swept) (counts : Counts) → r ≡ Good counts → SweptSo m (record { from = 0; most = most }) notes r → noteWidth * most ≤ length notes → Handed m counts notes
-handed m most notes r counts is so roomy =
-    let good = subst (SweptSo m (record { from = 0; most = most }) notes) is so in
+pub handed : (edition : Edition) (m : Bytes) (most : ℕ) (notes : List ℕ) (r : Swept) (counts : Counts) → r ≡ Good counts → SweptSo edition m (record { from = 0; most = most }) notes r → noteWidth * most ≤ length notes → Handed edition m counts notes
+handed edition m most notes r counts is so roomy =
+    let good = subst (SweptSo edition m (record { from = 0; most = most }) notes) is so in
     record { judged = good .judged; roomy = omega (arith, good .few); kept = good .kept }
 
 -- likewise the only row that was asked for
-pub one-kept : (m : Bytes) (row most : ℕ) (note : List ℕ) (r : Swept) (counts : Counts) → r ≡ Good counts → SweptSo m (record { from = row; most = most }) note r → noteWidth ≤ length note → OneKept m row (counts .rows) note
-one-kept m row most note r counts is so roomy =
-    let good = subst (SweptSo m (record { from = row; most = most }) note) is so in
-    record { counted = rows-judged m counts (good .judged); one = roomy; kept = good .kept }
+pub one-kept : (edition : Edition) (m : Bytes) (row most : ℕ) (note : List ℕ) (r : Swept) (counts : Counts) → r ≡ Good counts → SweptSo edition m (record { from = row; most = most }) note r → noteWidth ≤ length note → OneKept edition m row (counts .rows) note
+one-kept edition m row most note r counts is so roomy =
+    let good = subst (SweptSo edition m (record { from = row; most = most }) note) is so in
+    record { counted = rows-judged edition m counts (good .judged); one = roomy; kept = good .kept }

@@ -8,7 +8,7 @@ use Rattle.reader.proofs.table.read.Reads as read
 use Rattle.reader.proofs.parts.part.Reads as part
 use Rattle.reader.proofs.parts.stretch_of.Reads as stretch-of
 
-pub read-once : (κs : Lfts 2) (a : _) (r r′ : _) (s s′ : _) → read.Learnt κs a r s → read.Learnt κs a r′ s′ → (r ≡ r′) × (now (s .1 .0) ≡ now (s′ .1 .0))
+pub read-once : (κs : Lfts 2) (a : _) (r r′ : _) (s s′ : _) → read.Learnt κs a r s → read.Learnt κs a r′ s′ → (r ≡ r′) × (now (s .1 .1 .0) ≡ now (s′ .1 .1 .0))
 read-once κs a r r′ s s′ one two = (readings-by-answer r r′ (one .0 ∙ sym (two .0)), one .1 ∙ sym (two .1))
 
 pub part-once : (κs : Lfts 1) (a : _) (r r′ : _) (s s′ : _) → part.Learnt κs a r s → part.Learnt κs a r′ s′ → (now r ≡ now r′) × (r .ptr ≡ r′ .ptr)

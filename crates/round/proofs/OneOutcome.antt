@@ -6,5 +6,5 @@ use denote.Ref.{now}
 use Rattle.label.proofs.Numbers.{writings-by-answer}
 use Rattle.round.proofs.write_again.Reads as write-again
 
-pub write-again-once : (κs : Lfts 2) (a : _) (r r′ : _) (s s′ : _) → write-again.Learnt κs a r s → write-again.Learnt κs a r′ s′ → (r ≡ r′) × (now (s .1 .0) ≡ now (s′ .1 .0))
+pub write-again-once : (κs : Lfts 2) (a : _) (r r′ : _) (s s′ : _) → write-again.Learnt κs a r s → write-again.Learnt κs a r′ s′ → (r ≡ r′) × (now (s .1 .1 .0) ≡ now (s′ .1 .1 .0))
 write-again-once κs a r r′ s s′ one two = (writings-by-answer r r′ (one .0 ∙ sym (two .0)), one .1 .0 ∙ sym (two .1 .0))

@@ -3,9 +3,10 @@
 ghost use Prim.Native.Nat.{_-_};
 ghost use mathlib.Core.Path.{_≡_};
 ghost use lib.ListN.{drop, getD};
-ghost use Rattle.label.specs.Formats.{edition2005, ruleOf};
-ghost use Rattle.walk.specs.Shapes.{shapeOf};
+ghost use Rattle.label.specs.Formats.{widest, ruleOf};
 ghost use Rattle.walk.specs.Cursors.{ahead, plainRun, plainRow, indicatorAt, textRow, restRow, opening, afterPiece, afterSegment, afterSubElement, firstCursor, nextCursor};
+use formats::Shape;
+use formats::shape_of;
 use label::HEADER_LENGTH;
 use label::RELEASE_LENGTH;
 use leaves::Class;
@@ -13,10 +14,8 @@ use leaves::GS;
 use leaves::RS;
 use leaves::US;
 use walk::Cursor;
-use walk::Shape;
 use walk::Stage;
 use walk::count_from;
-use walk::shape_of;
 use walk::standing_at;
 
 // The byte at an index; 0 where there is none.
@@ -113,15 +112,17 @@ fn rest_at(m: &[u8], format: u32, at: usize) -> Cursor
 
 // The first row behind an indicator.
 fn opening_at(m: &[u8], format: u32, end: usize) -> Cursor
-    ensures { λ r. ⌜ r ≡ opening (now (m .entry)) format end (shapeOf (ruleOf edition2005 format)) ⌝ }
+    ensures { λ r. ⌜ r ≡ opening (now (m .entry)) format end (ruleOf widest format) ⌝ }
 {
     let behind = ahead_of(m, end, 1);
-    let shape = shape_of(format);
+    let shape = shape_of(format as usize);
     match shape {
         Shape::Fields => standing_at(Stage::VersionValue, format, behind, 2),
         Shape::Rest => rest_at(m, format, end),
-        Shape::Segments => standing_at(Stage::ReleaseValue, format, end, RELEASE_LENGTH),
-        Shape::Elements => plain_row(m, Stage::Piece, format, behind),
+        Shape::Segments03 => standing_at(Stage::ReleaseValue, format, end, RELEASE_LENGTH),
+        Shape::Segments04 => standing_at(Stage::ReleaseValue, format, end, RELEASE_LENGTH),
+        Shape::Elements05 => plain_row(m, Stage::Piece, format, behind),
+        Shape::Elements06 => plain_row(m, Stage::Piece, format, behind),
         Shape::Text => text_at(m, format, end),
         Shape::Counted => plain_row(m, Stage::TypeValue, format, behind),
         Shape::Unknown => standing_at(Stage::Body, format, end, 0),

@@ -5,9 +5,9 @@ use mathlib.Core.List.{List, [], _∷_}
 use native.Mathlib.Omega.{arith}
 use lib.ListN.{length, drop}
 use Rattle.label.specs.declared.Stretch.{Stretch}
+use Rattle.label.specs.declared.Edition.{Edition}
 use Rattle.label.specs.Bytes.{Bytes}
 use Rattle.label.specs.Limits.{longest}
-use Rattle.label.specs.Formats.{edition2005}
 use Rattle.label.specs.Layout.{Row}
 use Rattle.label.specs.ReadMessage.{reading}
 use Rattle.label.specs.Answer.{rowsRead}
@@ -25,21 +25,21 @@ stretch-first rows zero = refl
 stretch-first [] (suc i) = refl
 stretch-first (r ∷ rows) (suc i) = stretch-first rows i
 
-module _ (m : Bytes) where
+module _ (edition : Edition) (m : Bytes) where
   abbrev all : List Row
-  all = rowsRead (reading edition2005 m)
+  all = rowsRead (reading edition m)
 
-  lies-by : (i start long : ℕ) → stretchAt (drop i all) 0 ≡ record { start = start; length = long } → start + long ≤ length m → Lies m i start long
+  lies-by : (i start long : ℕ) → stretchAt (drop i all) 0 ≡ record { start = start; length = long } → start + long ≤ length m → Lies edition m i start long
   unfolding partOf
   lies-by i start long is inside =
       let there = stretch-first all i ∙ is in
       record { from = sym (ap (λ (s : Stretch). s .start) there); measures = sym (ap (λ (s : Stretch). s .length) there); inside = inside }
 
-  pub lies-here : (c : Cursor) (i : ℕ) → Yields m c (drop i all) → i < length all → Lies m i (c .start) (c .length)
+  pub lies-here : (c : Cursor) (i : ℕ) → Yields m c (drop i all) → i < length all → Lies edition m i (c .start) (c .length)
   lies-here c i yields more =
-      let held = holds-here m all c i yields more (λ (r : Row). r .start + r .length ≤ min longest (length m)) (walked m .inside) in
+      let held = holds-here m all c i yields more (λ (r : Row). r .start + r .length ≤ min longest (length m)) (walked edition m .inside) in
       lies-by i (c .start) (c .length) (ap (λ rows. stretchAt rows 0) (rows-here m all c i yields more)) (omega arith)
 
   -- no such row
-  pub lies-nowhere : (i : ℕ) → length all ≤ i → Lies m i 0 0
+  pub lies-nowhere : (i : ℕ) → length all ≤ i → Lies edition m i 0 0
   lies-nowhere i past = lies-by i 0 0 (ap (λ rows. stretchAt rows 0) (drop-past all i past)) (omega arith)

@@ -12,7 +12,7 @@ use lib.Dec.{ltb}
 use Rattle.label.specs.Bytes.{Bytes, GS, RS, EOT, plain, digit, between, every}
 use Rattle.label.specs.Limits.{longest, mostRows}
 use Rattle.label.specs.Values.{valueAfter, value}
-use Rattle.label.specs.Formats.{edition2005, ruleOf}
+use Rattle.label.specs.Formats.{widest, ruleOf}
 use Rattle.label.specs.ReadEnvelope.{readBy}
 use Rattle.label.specs.ReadMessage.{agreement}
 use Rattle.label.proofs.Tests.{and-both, Implies, Without, plain-without, cond-yes}
@@ -26,13 +26,12 @@ use Rattle.envelope.specs.Shown.{shown}
 use Rattle.envelope.specs.Headers.{valueEnd}
 use Rattle.envelope.specs.Formats.{payloadFound, afterValue, countFound, compressionFound, countedFound}
 use Rattle.envelope.proofs.ValueLaws.{value-bytes}
-use Rattle.envelope.proofs.FormatLaws.{shown-09}
+use Rattle.envelope.proofs.FormatLaws.{shown-counted}
 use Rattle.walk.specs.declared.Stage.{Stage}
 use Rattle.walk.specs.declared.Stage.the-variants.{TypeValue, CompressionValue, CountValue, Body}
 use Rattle.walk.specs.declared.Cursor.{Cursor}
 use Rattle.sweeps.specs.declared.Value.{Value}
 use Rattle.sweeps.specs.declared.Passed.{Passed}
-use Rattle.walk.specs.Shapes.{shapeOf}
 use Rattle.walk.specs.Cursors.{ahead, runOf, plainRun, countFrom, standing, plainRow, indicatorAt, opening, following, nextCursor}
 use Rattle.sweeps.specs.Quick.{Framed, RunsTo, Noted, Notable, NotedOne, FormatSwept}
 use Rattle.sweeps.specs.Counted.{Due, PlainBytes, ValueSwept, PartSwept}
@@ -235,7 +234,7 @@ compression-swept m from at rows count mid new p swept part = record {
 -- Behind the indicator
 
 module _ (m : Bytes) (at : ℕ) (inside : at + 1 < length m) where
-  behind-indicator : opening m 9 at (shapeOf (ruleOf edition2005 9)) ≡ plainRow m TypeValue 9 (at + 1)
+  behind-indicator : opening m 9 at (ruleOf widest 9) ≡ plainRow m TypeValue 9 (at + 1)
   unfolding opening ruleOf
   behind-indicator = ap (plainRow m TypeValue 9) (sym (ahead-inside m at 1 (omega arith)))
 
@@ -246,9 +245,9 @@ module _ (m : Bytes) (at : ℕ) (inside : at + 1 < length m) where
       ∙ ap (λ e. afterValue m e (compressionFound m)) (sym ends)
       ∙ after-value m at end next is less (compressionFound m)
 
-  counted-shown : (first : Bool) → shown m (readBy (ruleOf edition2005 9) first 9 (drop at m)) ≡ countedFound m at
+  counted-shown : (first : Bool) → shown m (readBy (ruleOf widest 9) first 9 (drop at m)) ≡ countedFound m at
   unfolding ruleOf readBy
-  counted-shown first = shown-09 m at (omega arith)
+  counted-shown first = shown-counted 9 m at (omega arith)
 
 -- the type, and what follows it
 abbrev pub typeValue : Value
@@ -258,7 +257,7 @@ module _ (m : Bytes) (from at rows : ℕ) (framed : Framed m) (inside : at < len
   more : at + 1 < length m
   more = byte-behind m framed at inside GS gs (λ e. omega arith)
 
-  pub type-due : (notes : List ℕ) → rows + 1 ≤ mostRows → Noted m from notes rows (opening m 9 at (shapeOf (ruleOf edition2005 9))) → Due m from TypeValue (at + 1) rows 1 notes
+  pub type-due : (notes : List ℕ) → rows + 1 ≤ mostRows → Noted m from notes rows (opening m 9 at (ruleOf widest 9)) → Due m from TypeValue (at + 1) rows 1 notes
   type-due notes few noted = record {
     framed = framed;
     inside = more;

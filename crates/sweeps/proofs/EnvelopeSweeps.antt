@@ -9,13 +9,18 @@ use lib.ListN.{length, getD, take, drop, length-take, length-drop}
 use lib.Seq.{drop-drop, getD-drop, getD-at, length-take-le}
 use lib.Dec.{eqb, ltb}
 use Rattle.label.specs.declared.Reason.the-variants.{BadFormatHeader}
+use Rattle.label.specs.declared.Edition.{Edition}
 use Rattle.label.specs.Bytes.{Bytes, GS, RS, between, digit, every}
 use Rattle.label.specs.Limits.{mostRows}
 use Rattle.label.specs.Values.{value}
-use Rattle.label.specs.Formats.{edition2005, ruleOf, textByte}
+use Rattle.label.specs.Elements.{element05, element06}
+use Rattle.label.specs.Formats.{widest, ruleOf, textByte}
 use Rattle.label.specs.ReadEnvelope.{readBy}
 use Rattle.label.specs.ReadMessage.{agreement}
+use Rattle.label.proofs.Editions.{isKnown, known-in-widest}
 use Rattle.label.proofs.Tests.{and-both, cond-yes}
+use Rattle.formats.specs.declared.Shape.{Shape}
+use Rattle.formats.specs.Shapes.{ruleFor}
 use Rattle.leaves.specs.Seek.{seek}
 use Rattle.leaves.proofs.Turns.{drop-step}
 use Rattle.pieces.specs.declared.Kind.{Kind}
@@ -28,14 +33,13 @@ use Rattle.envelope.specs.Bodies.{bodyFound}
 use Rattle.envelope.specs.Formats.{beginsAt}
 use Rattle.envelope.proofs.BodyLaws.{body-closed}
 use Rattle.envelope.proofs.HeaderLaws.{drop-two, read-some}
-use Rattle.envelope.proofs.FormatLaws.{shown-05, shown-06, shown-07}
+use Rattle.envelope.proofs.FormatLaws.{shown-elements, shown-text}
 use Rattle.walk.specs.declared.Stage.the-variants.{Indicator, Piece, Body}
 use Rattle.walk.specs.declared.Cursor.{Cursor}
 use Rattle.sweeps.specs.declared.Passed.{Passed}
 use Rattle.sweeps.specs.declared.Wanted.{Wanted}
-use Rattle.walk.specs.Shapes.{shapeOf}
 use Rattle.walk.specs.Cursors.{ahead, standing, plainRow, indicatorAt, opening, following, nextCursor}
-use Rattle.sweeps.specs.Quick.{Framed, Noted, Notable, NotedOne, ElementsOf, BodySwept, FormatSwept, EnvelopeSwept, StandsAt}
+use Rattle.sweeps.specs.Quick.{Framed, Noted, Notable, NotedOne, ElementsOf, BodySwept, FormatSwept, KnownSwept, EnvelopeSwept, StandsAt}
 use Rattle.sweeps.proofs.ElementEnds.{neither}
 use Rattle.sweeps.proofs.Framing.{byte-behind}
 
@@ -50,19 +54,20 @@ module _ (m : Bytes) (at : ℕ) (inside : at < length m) where
 
 -- a format by its number
 module _ (m : Bytes) (w : Wanted) (at rows f n : ℕ) (notes : List ℕ) (is : f ≡ n) where
-  pub due-as : StandsAt m w at rows notes (opening m f at (shapeOf (ruleOf edition2005 f))) → StandsAt m w at rows notes (opening m n at (shapeOf (ruleOf edition2005 n)))
-  due-as stands = subst (λ (f : ℕ). StandsAt m w at rows notes (opening m f at (shapeOf (ruleOf edition2005 f)))) is stands
+  pub due-as : StandsAt m w at rows notes (opening m f at (ruleOf widest f)) → StandsAt m w at rows notes (opening m n at (ruleOf widest n))
+  due-as stands = subst (λ (f : ℕ). StandsAt m w at rows notes (opening m f at (ruleOf widest f))) is stands
 
-  pub swept-as : (p : Passed) → FormatSwept m (w .from) n at rows p notes → FormatSwept m (w .from) f at rows p notes
-  swept-as p swept = subst (λ (f : ℕ). FormatSwept m (w .from) f at rows p notes) (sym is) swept
+  pub swept-as : (edition : Edition) (s : Shape) (p : Passed) → isKnown (ruleFor s) ≡ true → ruleFor s ≡ ruleOf edition f → FormatSwept m (w .from) n at rows p notes → KnownSwept edition m (w .from) f at rows p notes
+  swept-as edition s p known rule swept =
+      (sym rule ∙ sym (known-in-widest edition f (ruleFor s) (sym rule) known), subst (λ (f : ℕ). FormatSwept m (w .from) f at rows p notes) (sym is) swept)
 
 -- Elements
 
 module _ (m : Bytes) (from at rows : ℕ) (inside : at < length m) (gs : getD m at 0 ≡ GS) where
-  elements-shown : (k : Kind) (f : ℕ) → ElementsOf k f → (first : Bool) → shown m (readBy (ruleOf edition2005 f) first f (drop at m)) ≡ cond (beginsAt (GS ∷ []) m at) (bodyFound k 1 m (at + 1)) (Refused BadFormatHeader)
+  elements-shown : (k : Kind) (f : ℕ) → ElementsOf k f → (first : Bool) → shown m (readBy (ruleOf widest f) first f (drop at m)) ≡ cond (beginsAt (GS ∷ []) m at) (bodyFound k 1 m (at + 1)) (Refused BadFormatHeader)
   unfolding ruleOf readBy
-  elements-shown Elements05 f is first = ap (λ f. shown m (readBy (ruleOf edition2005 f) first f (drop at m))) is ∙ shown-05 m at (omega arith)
-  elements-shown Elements06 f is first = ap (λ f. shown m (readBy (ruleOf edition2005 f) first f (drop at m))) is ∙ shown-06 m at (omega arith)
+  elements-shown Elements05 f is first = ap (λ f. shown m (readBy (ruleOf widest f) first f (drop at m))) is ∙ shown-elements Elements05 element05 5 m at (omega arith) refl (λ body. refl)
+  elements-shown Elements06 f is first = ap (λ f. shown m (readBy (ruleOf widest f) first f (drop at m))) is ∙ shown-elements Elements06 element06 6 m at (omega arith) refl (λ body. refl)
   elements-shown Fields02 f is first = absurd is
   elements-shown Fields96 f is first = absurd is
   elements-shown Segments03 f is first = absurd is
@@ -70,10 +75,10 @@ module _ (m : Bytes) (from at rows : ℕ) (inside : at < length m) (gs : getD m 
   elements-shown Text f is first = absurd is
 
   -- the first element behind GS
-  pub elements-due : (k : Kind) (f : ℕ) → ElementsOf k f → (notes : List ℕ) → Noted m from notes rows (opening m f at (shapeOf (ruleOf edition2005 f))) → Noted m from notes rows (plainRow m Piece f (at + 1))
+  pub elements-due : (k : Kind) (f : ℕ) → ElementsOf k f → (notes : List ℕ) → Noted m from notes rows (opening m f at (ruleOf widest f)) → Noted m from notes rows (plainRow m Piece f (at + 1))
   unfolding ruleOf opening
-  elements-due Elements05 f is notes noted = subst (Noted m from notes rows) (ap (λ n. opening m n at (shapeOf (ruleOf edition2005 n))) is ∙ (λ i. plainRow m Piece (sym is i) (one-ahead m at inside i))) noted
-  elements-due Elements06 f is notes noted = subst (Noted m from notes rows) (ap (λ n. opening m n at (shapeOf (ruleOf edition2005 n))) is ∙ (λ i. plainRow m Piece (sym is i) (one-ahead m at inside i))) noted
+  elements-due Elements05 f is notes noted = subst (Noted m from notes rows) (ap (λ n. opening m n at (ruleOf widest n)) is ∙ (λ i. plainRow m Piece (sym is i) (one-ahead m at inside i))) noted
+  elements-due Elements06 f is notes noted = subst (Noted m from notes rows) (ap (λ n. opening m n at (ruleOf widest n)) is ∙ (λ i. plainRow m Piece (sym is i) (one-ahead m at inside i))) noted
   elements-due Fields02 f is notes noted = absurd is
   elements-due Fields96 f is notes noted = absurd is
   elements-due Segments03 f is notes noted = absurd is
@@ -108,7 +113,7 @@ module _ (m : Bytes) (framed : Framed m) (from at rows end : ℕ) (inside : at <
   pub text-notable : (row : ℕ) (c : Cursor) → c ≡ text-row → row ≤ mostRows → Notable row c
   text-notable row c same few = subst (Notable row) (sym same) (record { few = omega arith; inside = omega (arith, framed .short); known = omega arith })
 
-  text-here : opening m 7 at (shapeOf (ruleOf edition2005 7)) ≡ text-row
+  text-here : opening m 7 at (ruleOf widest 7) ≡ text-row
   unfolding ruleOf opening
   text-here = let long : seek RS (drop at m) ≡ end - at = omega arith in ap (standing Body 7 at) long
 
@@ -118,7 +123,7 @@ module _ (m : Bytes) (framed : Framed m) (from at rows end : ℕ) (inside : at <
       let there : ahead m at (end - at) ≡ end = omega (arith, length-take (end - at) (drop at m), length-drop at m) in
       ap (λ e. indicatorAt m (ahead m e 1)) there ∙ ap (indicatorAt m) (one-ahead m end ended)
 
-  pub text-swept : (old new : List ℕ) (c : Cursor) → every textByte (take (end - at) (drop at m)) ≡ true → c ≡ text-row → Noted m from old rows (opening m 7 at (shapeOf (ruleOf edition2005 7))) → NotedOne from old new rows c
+  pub text-swept : (old new : List ℕ) (c : Cursor) → every textByte (take (end - at) (drop at m)) ≡ true → c ≡ text-row → Noted m from old rows (opening m 7 at (ruleOf widest 7)) → NotedOne from old new rows c
       → FormatSwept m from 7 at rows (record { next = end + 1; rows = rows + 1 }) new
   unfolding ruleOf readBy
   text-swept old new c permitted same noted one =
@@ -126,7 +131,7 @@ module _ (m : Bytes) (framed : Framed m) (from at rows end : ℕ) (inside : at <
       record {
         more = omega arith;
         inside = text-more;
-        closes = λ first only. shown-07 m at (omega arith) ∙ sym (body-closed Text 1 m at end (omega arith) is ended permitted refl) ∙ ap (Closed (end + 1)) two;
+        closes = λ first only. shown-text 7 m at (omega arith) ∙ sym (body-closed Text 1 m at end (omega arith) is ended permitted refl) ∙ ap (Closed (end + 1)) two;
         noted = subst (Noted m from new (rows + 1)) (ap (nextCursor m) same ∙ text-next) (one m (subst (Noted m from old rows) (text-here ∙ sym same) noted));
       }
 
@@ -174,27 +179,28 @@ module _ (m : Bytes) (framed : Framed m) (from at rows : ℕ) (long : 3 ≤ leng
   unfolding indicatorAt
   indicator-here = let s = says in let sum : 10 * (getD m at 0 - 0x30) + units ≡ units = omega (arith, s .tens) in ap (λ f. standing Indicator f at 2) sum
 
-  indicator-next : nextCursor m indicator-row ≡ opening m units (at + 2) (shapeOf (ruleOf edition2005 units))
+  indicator-next : nextCursor m indicator-row ≡ opening m units (at + 2) (ruleOf widest units)
   unfolding nextCursor following
-  indicator-next = let there : ahead m at 2 ≡ at + 2 = omega (arith, length-take 2 (drop at m), length-drop at m) in ap (λ e. opening m units e (shapeOf (ruleOf edition2005 units))) there
+  indicator-next = let there : ahead m at 2 ≡ at + 2 = omega (arith, length-take 2 (drop at m), length-drop at m) in ap (λ e. opening m units e (ruleOf widest units)) there
 
   pub indicator-notable : (c : Cursor) → c ≡ indicator-row → rows ≤ mostRows → Notable rows c
   indicator-notable c same few = let s = says in subst (Notable rows) (sym same) (record { few = omega arith; inside = omega (arith, framed .short); known = omega (arith, s .most) })
 
   pub format-due : (old new : List ℕ) (c : Cursor) → c ≡ indicator-row → Noted m from old rows (indicatorAt m at) → NotedOne from old new rows c
-      → Noted m from new (rows + 1) (opening m units (at + 2) (shapeOf (ruleOf edition2005 units)))
+      → Noted m from new (rows + 1) (opening m units (at + 2) (ruleOf widest units))
   format-due old new c same noted one = subst (Noted m from new (rows + 1)) (ap (nextCursor m) same ∙ indicator-next) (one m (subst (Noted m from old rows) (indicator-here ∙ sym same) noted))
 
-  pub envelope-swept : (p : Passed) (notes : List ℕ) → FormatSwept m from units (at + 2) (rows + 1) p notes → EnvelopeSwept m from at rows p notes
-  envelope-swept p notes format =
+  pub envelope-swept : (edition : Edition) (p : Passed) (notes : List ℕ) → KnownSwept edition m from units (at + 2) (rows + 1) p notes → EnvelopeSwept edition m from at rows p notes
+  envelope-swept edition p notes known =
       let s = says in
+      let format = known .1 in
       let here : at + 2 - 2 ≡ at = omega arith in
       let count : 1 + (p .rows - (rows + 1)) ≡ p .rows - rows = omega (arith, format .more) in
       record {
         more = omega (arith, format .more);
         inside = format .inside;
         closes = λ first only.
-            ap (shown m) (read-some edition2005 first units (drop at m) says-format (omega (arith, s .most)) ∙ ap (readBy (ruleOf edition2005 units) first units) (drop-drop 2 at m))
+            ap (shown m) (read-some edition first units (drop at m) says-format (omega (arith, s .most)) ∙ (λ i. readBy (known .0 i) first units (drop-drop 2 at m i)))
             ∙ format .closes first (λ e. only (sym here ∙ e))
             ∙ ap (Closed (p .next)) count;
         noted = format .noted;

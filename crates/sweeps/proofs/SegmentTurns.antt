@@ -14,7 +14,7 @@ use Rattle.label.specs.Bytes.{Bytes, FS, GS, RS, US, plain, between, capitalOrD
 use Rattle.label.specs.Pieces.{pieces, lastIsEmpty, withoutLast}
 use Rattle.label.specs.Segments.{Segment, tag, tag03, tagged}
 use Rattle.label.specs.Values.{releaseLength}
-use Rattle.label.specs.Formats.{edition2005, ruleOf}
+use Rattle.label.specs.Formats.{widest, ruleOf}
 use Rattle.label.specs.ReadEnvelope.{segmentByte, segmentsIn, areSegments, readBy}
 use Rattle.label.specs.ReadMessage.{agreement}
 use Rattle.label.proofs.Tests.{both, free, free-of, Without, without-or, without-one, plain-without, Implies, every-implies}
@@ -30,11 +30,10 @@ use Rattle.envelope.specs.Bodies.{bodyFound}
 use Rattle.envelope.specs.Formats.{segmentsFound}
 use Rattle.envelope.specs.Shown.{shown}
 use Rattle.envelope.proofs.FormatTests.{segments-body}
-use Rattle.envelope.proofs.FormatLaws.{shown-03, shown-04}
+use Rattle.envelope.proofs.FormatLaws.{shown-segments}
 use Rattle.walk.specs.declared.Stage.the-variants.{Tag, ReleaseValue}
 use Rattle.walk.specs.declared.Cursor.{Cursor}
 use Rattle.sweeps.specs.declared.Passed.{Passed}
-use Rattle.walk.specs.Shapes.{shapeOf}
 use Rattle.walk.specs.Cursors.{ahead, standing, plainRow, indicatorAt, opening, afterSegment, following, nextCursor}
 use Rattle.sweeps.specs.Quick.{Framed, Noted, NotedOne, BodySwept, FormatSwept}
 use Rattle.sweeps.specs.Segments.{segmentsKind, inSegment, laterRows, SegmentSwept}
@@ -200,13 +199,13 @@ module _ (m : Bytes) (f at : ℕ) (least : 3 ≤ f) (most : f ≤ 4) where
       by true is = subst Fact (sym (eqb-true f 3 is)) three
       by false is = let other = eqb-false f 3 is in let is-four : 4 ≡ f = omega (arith, least, most, other) in subst Fact is-four four
 
-  formats-shown : at ≤ length m → (first : Bool) → shown m (readBy (ruleOf edition2005 f) first f (drop at m)) ≡ segmentsFound (segmentsKind f) m at
+  formats-shown : at ≤ length m → (first : Bool) → shown m (readBy (ruleOf widest f) first f (drop at m)) ≡ segmentsFound (segmentsKind f) m at
   unfolding ruleOf readBy
-  formats-shown inside first = either (λ g. shown m (readBy (ruleOf edition2005 g) first g (drop at m)) ≡ segmentsFound (segmentsKind g) m at) (shown-03 m at inside) (shown-04 m at inside)
+  formats-shown inside first = either (λ g. shown m (readBy (ruleOf widest g) first g (drop at m)) ≡ segmentsFound (segmentsKind g) m at) (shown-segments Segments03 tag03 3 m at inside refl (λ body kept. kept) (λ body. refl)) (shown-segments Segments04 tag 4 m at inside refl (λ body kept. kept) (λ body. refl))
 
-  formats-open : opening m f at (shapeOf (ruleOf edition2005 f)) ≡ standing ReleaseValue f at releaseLength
+  formats-open : opening m f at (ruleOf widest f) ≡ standing ReleaseValue f at releaseLength
   unfolding opening ruleOf
-  formats-open = either (λ g. opening m g at (shapeOf (ruleOf edition2005 g)) ≡ standing ReleaseValue g at releaseLength) refl refl
+  formats-open = either (λ g. opening m g at (ruleOf widest g) ≡ standing ReleaseValue g at releaseLength) refl refl
 
   release-next : at + 9 ≤ length m → nextCursor m (standing ReleaseValue f at releaseLength) ≡ plainRow m Tag f (at + 6 + 3)
   unfolding nextCursor following
@@ -214,7 +213,7 @@ module _ (m : Bytes) (f at : ℕ) (least : 3 ≤ f) (most : f ≤ 4) where
 
   -- the row of the six bytes is noted
   pub release-noted : (from rows : ℕ) (old new : List ℕ) (c : Cursor) → at + 9 ≤ length m → c ≡ standing ReleaseValue f at 6 → NotedOne from old new rows c
-      → Noted m from old rows (opening m f at (shapeOf (ruleOf edition2005 f))) → Noted m from new (rows + 1) (plainRow m Tag f (at + 6 + 3))
+      → Noted m from old rows (opening m f at (ruleOf widest f)) → Noted m from new (rows + 1) (plainRow m Tag f (at + 6 + 3))
   release-noted from rows old new c inside row one noted =
       subst (λ (d : Cursor). Noted m from new (rows + 1) d) (ap (nextCursor m) row ∙ release-next inside) (one m (subst (λ (d : Cursor). Noted m from old rows d) (formats-open ∙ sym row) noted))
 

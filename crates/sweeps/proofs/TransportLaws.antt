@@ -10,7 +10,7 @@ use lib.Dec.{leb, ltb, eqb}
 use Rattle.label.specs.declared.Reason.the-variants.{BadFormatHeader}
 use Rattle.label.specs.Bytes.{Bytes, ascii, GS}
 use Rattle.label.specs.Limits.{longest, mostRows}
-use Rattle.label.specs.Formats.{edition2005, ruleOf}
+use Rattle.label.specs.Formats.{widest, ruleOf}
 use Rattle.label.specs.ReadEnvelope.{readBy}
 use Rattle.label.specs.ReadMessage.{agreement}
 use Rattle.label.proofs.Tests.{both}
@@ -21,11 +21,10 @@ use Rattle.envelope.specs.declared.Found.the-variants.{Closed, Refused}
 use Rattle.envelope.specs.Bodies.{bodyFound}
 use Rattle.envelope.specs.Formats.{transportFound}
 use Rattle.envelope.specs.Shown.{shown}
-use Rattle.envelope.proofs.FormatLaws.{shown-01}
+use Rattle.envelope.proofs.FormatLaws.{shown-transport}
 use Rattle.walk.specs.declared.Stage.the-variants.{VersionValue, Piece}
 use Rattle.walk.specs.declared.Cursor.{Cursor}
 use Rattle.sweeps.specs.declared.Passed.{Passed}
-use Rattle.walk.specs.Shapes.{shapeOf}
 use Rattle.walk.specs.Cursors.{standing, plainRow, opening, following, nextCursor}
 use Rattle.sweeps.specs.Quick.{Noted, Notable, NotedOne, FirstAt, BodySwept, FormatSwept}
 use Rattle.walk.proofs.Offsets.{ahead-inside}
@@ -50,7 +49,7 @@ module _ (m : Bytes) (at rows most : ℕ) (ready : Begins m at rows most) where
   fields-inside = omega (arith, ready .first, ready .long)
 
   -- the version's row, and the step behind it
-  version-row : opening m 1 at (shapeOf (ruleOf edition2005 1)) ≡ standing VersionValue 1 (at + 1) 2
+  version-row : opening m 1 at (ruleOf widest 1) ≡ standing VersionValue 1 (at + 1) 2
   unfolding opening ruleOf
   version-row = ap (λ s. standing VersionValue 1 s 2) (sym (ahead-inside m at 1 (omega (arith, fields-inside))))
 
@@ -64,7 +63,7 @@ module _ (m : Bytes) (at rows most : ℕ) (ready : Begins m at rows most) where
     pub version-notable : length m ≤ longest → most ≤ mostRows → Notable rows c
     version-notable short limit = subst (Notable rows) (sym is) (record { few = omega (arith, ready .few); inside = omega (arith, fields-inside); known = omega arith })
 
-    pub version-noted : (from : ℕ) (old new : List ℕ) → NotedOne from old new rows c → Noted m from old rows (opening m 1 at (shapeOf (ruleOf edition2005 1))) → Noted m from new (rows + 1) (plainRow m Piece 1 (at + 3))
+    pub version-noted : (from : ℕ) (old new : List ℕ) → NotedOne from old new rows c → Noted m from old rows (opening m 1 at (ruleOf widest 1)) → Noted m from new (rows + 1) (plainRow m Piece 1 (at + 3))
     version-noted from old new one noted = subst (Noted m from new (rows + 1)) (ap (nextCursor m) is ∙ version-step) (one m (subst (Noted m from old rows) (version-row ∙ sym is) noted))
 
   -- what is found, by the three bytes
@@ -92,9 +91,9 @@ module _ (m : Bytes) (at rows most : ℕ) (ready : Begins m at rows most) where
   found-96 gs is = let k = both (eqb (getD m (at + 1) 0) 0x39) (eqb (getD m (at + 2) 0) 0x36) is in by-version gs 0x39 0x36 (eqb-true _ 0x39 (k .left)) (eqb-true _ 0x36 (k .right))
 
   -- the first envelope
-  transport-shown : (first : Bool) → FirstAt (at - 2) first → shown m (readBy (ruleOf edition2005 1) first 1 (drop at m)) ≡ transportFound m at
+  transport-shown : (first : Bool) → FirstAt (at - 2) first → shown m (readBy (ruleOf widest 1) first 1 (drop at m)) ≡ transportFound m at
   unfolding ruleOf readBy
-  transport-shown first only = ap (λ t. shown m (readBy (ruleOf edition2005 1) t 1 (drop at m))) (only (omega (arith, ready .first))) ∙ shown-01 m at (omega (arith, fields-inside))
+  transport-shown first only = ap (λ t. shown m (readBy (ruleOf widest 1) t 1 (drop at m))) (only (omega (arith, ready .first))) ∙ shown-transport 1 m at (omega (arith, fields-inside))
 
   pub transport-swept : (from : ℕ) (k : Kind) (new : List ℕ) (p : Passed) → transportFound m at ≡ bodyFound k 2 m (at + 3) → BodySwept m from k (at + 3) (rows + 1) p new → FormatSwept m from 1 at rows p new
   transport-swept from k new p found swept =

@@ -5,11 +5,12 @@ use mathlib.Core.Path.{_≡_}
 use mathlib.Core.Bool.{Bool, true, cond}
 use mathlib.Core.List.{List, [], _∷_}
 use lib.ListN.{length, getD, take, drop}
+use Rattle.label.specs.declared.Edition.{Edition}
 use Rattle.label.specs.declared.Counts.{Counts}
 use Rattle.label.specs.declared.Reading.the-variants.{Accepted}
 use Rattle.label.specs.Bytes.{Bytes, EOT, plain, digit}
 use Rattle.label.specs.Limits.{longest, mostRows}
-use Rattle.label.specs.Formats.{edition2005, ruleOf}
+use Rattle.label.specs.Formats.{widest, ruleOf}
 use Rattle.label.specs.Layout.{Row}
 use Rattle.label.specs.ReadEnvelope.{readBy, readEnvelope}
 use Rattle.label.specs.Message.{header}
@@ -127,32 +128,36 @@ pub record BodySwept (m : Bytes) (from : ℕ) (k : Kind) (at rows : ℕ) (p : Pa
 abbrev pub FirstAt : ℕ → Bool → Type 0
 FirstAt at first = at ≡ length header → first ≡ true
 
--- a format behind its indicator, whose row is one more
+-- a format behind its indicator, whose row is one more; by its rule in the widest edition
 pub record FormatSwept (m : Bytes) (from f at rows : ℕ) (p : Passed) (notes : List ℕ) : Type 0 where
   pub more : rows ≤ p .rows
   pub inside : p .next < length m
-  pub closes : (first : Bool) → FirstAt (at - 2) first → shown m (readBy (ruleOf edition2005 f) first f (drop at m)) ≡ Closed (p .next) (1 + (p .rows - rows))
+  pub closes : (first : Bool) → FirstAt (at - 2) first → shown m (readBy (ruleOf widest f) first f (drop at m)) ≡ Closed (p .next) (1 + (p .rows - rows))
   pub noted : Noted m from notes (p .rows) (indicatorAt m (p .next))
 
+-- a format that an edition knows
+abbrev pub KnownSwept : Edition → Bytes → ℕ → ℕ → ℕ → ℕ → Passed → List ℕ → Type 0
+KnownSwept edition m from f at rows p notes = (ruleOf edition f ≡ ruleOf widest f) × FormatSwept m from f at rows p notes
+
 -- an envelope
-pub record EnvelopeSwept (m : Bytes) (from at rows : ℕ) (p : Passed) (notes : List ℕ) : Type 0 where
+pub record EnvelopeSwept (edition : Edition) (m : Bytes) (from at rows : ℕ) (p : Passed) (notes : List ℕ) : Type 0 where
   pub more : rows ≤ p .rows
   pub inside : p .next < length m
-  pub closes : (first : Bool) → FirstAt at first → shown m (readEnvelope edition2005 first (drop at m)) ≡ Closed (p .next) (p .rows - rows)
+  pub closes : (first : Bool) → FirstAt at first → shown m (readEnvelope edition first (drop at m)) ≡ Closed (p .next) (p .rows - rows)
   pub noted : Noted m from notes (p .rows) (indicatorAt m (p .next))
 
 -- A message
 
 -- what is said of a swept message: the exact reader's judgement, and the rows that are kept; of a message that is left nothing
-pub record GoodSwept (m : Bytes) (w : Wanted) (counts : Counts) (notes : List ℕ) : Type 0 where
-  pub judged : judgedAs (reading edition2005 m) ≡ Accepted counts
+pub record GoodSwept (edition : Edition) (m : Bytes) (w : Wanted) (counts : Counts) (notes : List ℕ) : Type 0 where
+  pub judged : judgedAs (reading edition m) ≡ Accepted counts
   pub few : counts .rows ≤ w .most
   pub kept : Kept m (w .from) notes (counts .rows)
 
-abbrev pub SweptSo : Bytes → Wanted → List ℕ → Swept → Type 0
-SweptSo m w notes (Good counts) = GoodSwept m w counts notes
-SweptSo m w notes Full = Unit {0}
-SweptSo m w notes Left = Unit {0}
+abbrev pub SweptSo : Edition → Bytes → Wanted → List ℕ → Swept → Type 0
+SweptSo edition m w notes (Good counts) = GoodSwept edition m w counts notes
+SweptSo edition m w notes Full = Unit {0}
+SweptSo edition m w notes Left = Unit {0}
 
 -- a message that is left
 abbrev pub SaysNothing : Swept → Type 0
@@ -167,13 +172,13 @@ EndsSo m at envelopes rows most Full = ⊥
 EndsSo m at envelopes rows most Left = Unit {0}
 
 -- a message that was swept, with all its rows in the notes
-pub record Handed (m : Bytes) (counts : Counts) (notes : List ℕ) : Type 0 where
-  pub judged : judgedAs (reading edition2005 m) ≡ Accepted counts
+pub record Handed (edition : Edition) (m : Bytes) (counts : Counts) (notes : List ℕ) : Type 0 where
+  pub judged : judgedAs (reading edition m) ≡ Accepted counts
   pub roomy : noteWidth * counts .rows ≤ length notes
   pub kept : Kept m 0 notes (counts .rows)
 
 -- a message that was swept, with its row of a number in the note, if it has one
-pub record OneKept (m : Bytes) (row rows : ℕ) (note : List ℕ) : Type 0 where
-  pub counted : rows ≡ length (rowsRead (reading edition2005 m))
+pub record OneKept (edition : Edition) (m : Bytes) (row rows : ℕ) (note : List ℕ) : Type 0 where
+  pub counted : rows ≡ length (rowsRead (reading edition m))
   pub one : noteWidth ≤ length note
   pub kept : Kept m row note rows

@@ -1,5 +1,6 @@
-// Runs the vectors of data/: messages that are read (vectors.txt), rows that are written (writing.txt), and parts that are handed
-// back (parts.txt). Prints each vector's name and what comes of it. The head of a file says how its vectors are written.
+// Runs the vectors of data/ in each edition: messages that are read (vectors.txt), rows that are written (writing.txt), and
+// parts that are handed back (parts.txt). Prints each vector's name and what comes of it. The head of a file says how its vectors are
+// written.
 mod notation;
 mod numbers;
 mod reading;
@@ -7,6 +8,7 @@ mod shown;
 mod split;
 mod writing;
 
+use label::Edition;
 use libc::STDOUT_FILENO;
 use split::first;
 
@@ -18,12 +20,19 @@ enum Trial {
 }
 
 fn main() {
-    run_file(b"vectors.txt", Trial::Read);
-    run_file(b"writing.txt", Trial::Write);
-    run_file(b"parts.txt", Trial::Part);
+    io::write_all(STDOUT_FILENO, b"edition 2005\n");
+    run_files(Edition::Edition2005);
+    io::write_all(STDOUT_FILENO, b"edition 2025\n");
+    run_files(Edition::Edition2025);
 }
 
-fn run_file(name: &[u8], trial: Trial) {
+fn run_files(edition: Edition) {
+    run_file(b"vectors.txt", Trial::Read, edition);
+    run_file(b"writing.txt", Trial::Write, edition);
+    run_file(b"parts.txt", Trial::Part, edition);
+}
+
+fn run_file(name: &[u8], trial: Trial, edition: Edition) {
     let mut text = io::large_buffer();
     let fd = os::open_read(name);
     if fd < 0 {
@@ -32,14 +41,14 @@ fn run_file(name: &[u8], trial: Trial) {
     }
     let length = io::read_full(fd, &mut text);
     libc::close(fd);
-    run_lines(&text[..length], trial);
+    run_lines(&text[..length], trial, edition);
 }
 
-fn run_lines(text: &[u8], trial: Trial) {
+fn run_lines(text: &[u8], trial: Trial, edition: Edition) {
     let mut from = 0;
     while from < text.len() {
         let end = first(text, from, b'\n');
-        run_line(&text[from..end], trial);
+        run_line(&text[from..end], trial, edition);
         if end == text.len() {
             return;
         }
@@ -48,7 +57,7 @@ fn run_lines(text: &[u8], trial: Trial) {
 }
 
 // Prints a vector's name and what comes of it; nothing for an empty line or a comment.
-fn run_line(line: &[u8], trial: Trial) {
+fn run_line(line: &[u8], trial: Trial, edition: Edition) {
     if line.len() == 0 {
         return;
     }
@@ -59,8 +68,8 @@ fn run_line(line: &[u8], trial: Trial) {
     io::write_all(STDOUT_FILENO, b"\n");
     let rest = split::rest(line);
     match trial {
-        Trial::Read => reading::run_message(rest),
-        Trial::Write => writing::run_rows(rest),
-        Trial::Part => reading::run_part(rest),
+        Trial::Read => reading::run_message(edition, rest),
+        Trial::Write => writing::run_rows(edition, rest),
+        Trial::Part => reading::run_part(edition, rest),
     }
 }

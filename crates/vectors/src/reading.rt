@@ -3,6 +3,7 @@ use crate::notation;
 use crate::numbers;
 use crate::shown;
 use crate::split;
+use label::Edition;
 use label::Reading;
 use label::TABLE;
 
@@ -10,11 +11,11 @@ use label::TABLE;
 const MANY: usize = 100;
 
 // Prints the reading of a message.
-pub(crate) fn run_message(text: &[u8]) {
+pub(crate) fn run_message(edition: Edition, text: &[u8]) {
     let mut message = [0u8; 4200];
     let length = notation::expand(text, &mut message);
     let mut table = [0u32; TABLE];
-    let reading = reader::read(&message[..length], &mut table);
+    let reading = reader::read(edition, &message[..length], &mut table);
     print(reading, &table);
 }
 
@@ -35,10 +36,10 @@ fn print(reading: Reading, table: &[u32]) {
 }
 
 // Prints the part of a message that a row names.
-pub(crate) fn run_part(text: &[u8]) {
+pub(crate) fn run_part(edition: Edition, text: &[u8]) {
     let row = numbers::number(split::word(text));
     let mut message = [0u8; 4200];
     let length = notation::expand(split::rest(text), &mut message);
-    let part = reader::part(&message[..length], row);
+    let part = reader::part(edition, &message[..length], row);
     shown::print_part(part);
 }

@@ -6,8 +6,8 @@ use mathlib.Core.List.{List, [], _∷_, _++_, map, append-nil}
 use native.Mathlib.Omega.{arith}
 use lib.ListN.{length, drop}
 use Rattle.label.specs.Bytes.{Bytes, EOT, RS, every}
+use Rattle.label.specs.declared.Edition.{Edition}
 use Rattle.label.specs.Limits.{longest}
-use Rattle.label.specs.Formats.{edition2005}
 use Rattle.label.specs.Layout.{Part, mark, Row, separated, ended}
 use Rattle.label.specs.Envelope.{Envelope, Within}
 use Rattle.label.specs.Written.{parts}
@@ -24,16 +24,16 @@ use Rattle.walk.proofs.Enveloped.{envelopes-lead, alone-leads}
 abbrev behindHeader : Bool → List Envelope → List Part
 behindHeader alone es = cond alone (separated RS (map parts es)) (ended RS (map parts es) ++ (mark EOT ∷ []))
 
-module _ (m : Bytes) (es : List Envelope) (good : Good edition2005 m es) where
-  one-alone : (es : List Envelope) → Each (Within edition2005) es → isRestAlone es ≡ true → Leads m (indicatorAt m) (behindHeader true es)
+module _ (edition : Edition) (m : Bytes) (es : List Envelope) (good : Good edition m es) where
+  one-alone : (es : List Envelope) → Each (Within edition) es → isRestAlone es ≡ true → Leads m (indicatorAt m) (behindHeader true es)
   one-alone [] within is = absurd (false≢true is)
-  one-alone (e ∷ []) within is = subst (Leads m (indicatorAt m)) (sym (append-nil (parts e))) (alone-leads m (good .notTooLong) e (within .0) is)
+  one-alone (e ∷ []) within is = subst (Leads m (indicatorAt m)) (sym (append-nil (parts e))) (alone-leads edition m (good .notTooLong) e (within .0) is)
   one-alone (e ∷ (e′ ∷ es)) within is = absurd (false≢true is)
 
   all-lead : (t : Bool) → isRestAlone es ≡ t → Leads m (indicatorAt m) (behindHeader t es)
   all-lead true is = one-alone es (good .within) is
   all-lead false is =
-      envelopes-lead m (good .notTooLong) es (good .within)
+      envelopes-lead edition m (good .notTooLong) es (good .within)
       (subst (λ (t : Bool). (t || every (λ e. not (isRest e)) es) ≡ true) is (good .onlyAlone))
 
   -- from the first row of a good message the walk goes over its rows
@@ -47,13 +47,13 @@ pub record Walked (m : Bytes) (rows : List Row) : Type 0 where
   pub yields : Yields m (firstCursor m) rows
   pub inside : Each (λ (r : Row). r .start + r .length ≤ min longest (length m)) rows
 
-pub walked : (m : Bytes) → Walked m (rowsRead (reading edition2005 m))
+pub walked : (edition : Edition) (m : Bytes) → Walked m (rowsRead (reading edition m))
 unfolding rowsOf message
-walked m = by (reading edition2005 m) refl
+walked edition m = by (reading edition m) refl
   where
-    by : (o : Outcome) → reading edition2005 m ≡ o → Walked m (rowsRead o)
+    by : (o : Outcome) → reading edition m ≡ o → Walked m (rowsRead o)
     by (read es) says =
-        let good = accepted-is-good edition2005 m es says in
+        let good = accepted-is-good edition m es says in
         let long = ap length (good .writesOut) in
-        record { yields = good-walk m es good; inside = rows-inside (min longest (length m)) 0 (messageParts es) (omega (arith, long, good .notTooLong)) }
+        record { yields = good-walk edition m es good; inside = rows-inside (min longest (length m)) 0 (messageParts es) (omega (arith, long, good .notTooLong)) }
     by (refused reason place) says = record { yields = tt; inside = tt }

@@ -11,7 +11,7 @@ use Rattle.label.specs.Bytes.{Bytes, FS, GS, RS, US, plain, digit, between, eve
 use Rattle.label.specs.Limits.{longest, longAs, _to_}
 use Rattle.label.specs.Values.{count, valueAfter, value}
 use Rattle.label.specs.Segments.{Element, Segment, tagged}
-use Rattle.label.specs.Formats.{edition2005, Rule, ruleOf}
+use Rattle.label.specs.Formats.{Rule, widest, ruleOf}
 use Rattle.label.specs.Layout.{Part, mark, bytesOf, rowsFrom, further, ended}
 use Rattle.label.specs.Written.{valueRow, pieceRow, tagRow, elementRow, subElementRow, bodyRow, rowed, rowedEach, twoDigits, indicator, elementParts, segmentParts}
 use Rattle.label.specs.Envelope.{plainElement}
@@ -21,7 +21,6 @@ use Rattle.leaves.specs.Seek.{seek}
 use Rattle.walk.specs.declared.Stage.{Stage}
 use Rattle.walk.specs.declared.Stage.the-variants.{Indicator, CountValue, Piece, Tag, LaterElement, FurtherSubElement, Body}
 use Rattle.walk.specs.declared.Cursor.{Cursor}
-use Rattle.walk.specs.Shapes.{shapeOf}
 use Rattle.walk.specs.Cursors.{ahead, countFrom, kindOf, standing, plainRow, indicatorAt, opening, afterPiece, afterSegment, afterSubElement, following}
 use Rattle.walk.proofs.Offsets.{digit-value}
 use Rattle.walk.proofs.Walks.{Yields, Leads, firstOf, first-further, behind-bytes, byte-there, mark-leads, choice-leads, row-yields, plain-leads}
@@ -64,7 +63,7 @@ digit-plain b is =
 
 module _ (m : Bytes) (f : ℕ) where
   -- an indicator, and what its format's rule says follows
-  pub indicator-leads : (r : Rule) (ps : List Part) → ruleOf edition2005 f ≡ r → Leads m (λ end. opening m f end (shapeOf r)) ps → Leads m (indicatorAt m) (indicator f ∷ ps)
+  pub indicator-leads : (r : Rule) (ps : List Part) → ruleOf widest f ≡ r → Leads m (λ end. opening m f end r) ps → Leads m (indicatorAt m) (indicator f ∷ ps)
   unfolding indicatorAt following
   indicator-leads r ps known leads at h =
       let tens = byte-there m at (twoDigits f ++ bytesOf ps) h in
@@ -72,7 +71,7 @@ module _ (m : Bytes) (f : ℕ) where
       let says : 10 * (getD m at 0 - 0x30) + (getD m (at + 1) 0 - 0x30) ≡ f = omega arith in
       subst (λ (n : ℕ). Yields m (standing Indicator n at 2) (rowsFrom at (indicator f ∷ ps))) (sym says)
       (row-yields m Indicator f at 2 (twoDigits f) ps refl h λ end h′.
-      subst (λ (r : Rule). Yields m (opening m f end (shapeOf r)) (rowsFrom end ps)) (sym known) (leads end h′))
+      subst (λ (r : Rule). Yields m (opening m f end r) (rowsFrom end ps)) (sym known) (leads end h′))
 
   module _ (later : List Part) (next : Leads m (indicatorAt m) later) where
     -- a field or an element, and those behind it

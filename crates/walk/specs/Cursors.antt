@@ -7,17 +7,14 @@ use lib.Dec.{eqb, ltb}
 use Rattle.label.specs.Limits.{longest}
 use Rattle.label.specs.Bytes.{Bytes, GS, RS, US, plain, digit}
 use Rattle.label.specs.Values.{releaseLength}
-use Rattle.label.specs.Formats.{edition2005, ruleOf}
+use Rattle.label.specs.Formats.{Rule, asFields, asRest, asSegments, asElements, asText, asCounted, unknown, widest, ruleOf}
 use Rattle.label.specs.Layout.{Row}
 use Rattle.label.specs.Written.{indicatorRow, valueRow, pieceRow, tagRow, elementRow, subElementRow, bodyRow}
 use Rattle.label.specs.Message.{header}
 use Rattle.leaves.specs.Seek.{seek}
-use Rattle.walk.specs.declared.Shape.{Shape}
-use Rattle.walk.specs.declared.Shape.the-variants.{Fields, Rest, Segments, Elements, Text, Counted, Unknown}
 use Rattle.walk.specs.declared.Stage.{Stage}
 use Rattle.walk.specs.declared.Stage.the-variants.{Indicator, VersionValue, ReleaseValue, TypeValue, CompressionValue, CountValue, Piece, Tag, LaterElement, FurtherSubElement, Body}
 use Rattle.walk.specs.declared.Cursor.{Cursor}
-use Rattle.walk.specs.Shapes.{shapeOf}
 
 -- the offset n bytes further, or the message's end where that comes first
 abbrev pub ahead : Bytes → ℕ → ℕ → ℕ
@@ -72,15 +69,15 @@ textRow m f at = standing Body f at (seek RS (drop at m))
 abbrev pub restRow : Bytes → ℕ → ℕ → Cursor
 restRow m f at = standing Body f at (length (drop at m))
 
--- the first row behind an indicator that ends at an offset, by the format's shape
-unfoldable pub opening : Bytes → ℕ → ℕ → Shape → Cursor
-opening m f end Fields = standing VersionValue f (ahead m end 1) 2
-opening m f end Rest = restRow m f end
-opening m f end Segments = standing ReleaseValue f end releaseLength
-opening m f end Elements = plainRow m Piece f (ahead m end 1)
-opening m f end Text = textRow m f end
-opening m f end Counted = plainRow m TypeValue f (ahead m end 1)
-opening m f end Unknown = standing Body f end 0
+-- the first row behind an indicator that ends at an offset, by the format's rule
+unfoldable pub opening : Bytes → ℕ → ℕ → Rule → Cursor
+opening m f end asFields = standing VersionValue f (ahead m end 1) 2
+opening m f end (asRest permitted) = restRow m f end
+opening m f end (asSegments isTag) = standing ReleaseValue f end releaseLength
+opening m f end (asElements isElement) = plainRow m Piece f (ahead m end 1)
+opening m f end (asText permitted) = textRow m f end
+opening m f end asCounted = plainRow m TypeValue f (ahead m end 1)
+opening m f end unknown = standing Body f end 0
 
 -- behind a field of 01 or an element of 05 or 06: the next one behind GS, else the next indicator behind RS
 unfoldable pub afterPiece : Bytes → ℕ → ℕ → Cursor
@@ -99,7 +96,7 @@ afterSubElement m f end =
 
 -- behind a row that starts and ends at offsets, by its stage
 unfoldable pub following : Bytes → ℕ → ℕ → ℕ → Stage → Cursor
-following m f start end Indicator = opening m f end (shapeOf (ruleOf edition2005 f))
+following m f start end Indicator = opening m f end (ruleOf widest f)
 following m f start end VersionValue = plainRow m Piece f end
 following m f start end ReleaseValue = plainRow m Tag f (ahead m end 3)
 following m f start end TypeValue = plainRow m CompressionValue f (ahead m end 1)

@@ -3,22 +3,9 @@
 // rows is `walked` of proofs/Promises; `steps` goes.
 ghost use mathlib.Core.Path.{_≡_};
 ghost use lib.ListN.{drop};
-ghost use Rattle.label.specs.Formats.{edition2005, ruleOf};
-ghost use Rattle.walk.specs.Shapes.{shapeOf};
 ghost use Rattle.walk.specs.Cursors.{countFrom, kindOf, standing};
 use label::LONGEST;
 use leaves::Class;
-
-// What a format's body is made of; `shapeOf` of specs/Shapes has each rule's shape.
-pub enum Shape {
-    Fields,
-    Rest,
-    Segments,
-    Elements,
-    Text,
-    Counted,
-    Unknown,
-}
 
 // What a row is: the indicator; a header value (the version of 01, the six bytes of 03 and 04, type, compression and count
 // of 09); a field or an element of 01, 05 or 06; a tag, the first sub-element of a later element, or a further one; a body.
@@ -61,23 +48,6 @@ pub fn kind_of(stage: Stage) -> u32
         Stage::LaterElement => 5,
         Stage::FurtherSubElement => 6,
         Stage::Body => 7,
-    }
-}
-
-// The shape of a format's body.
-pub fn shape_of(format: u32) -> Shape
-    ensures { λ r. ⌜ r ≡ shapeOf (ruleOf edition2005 format) ⌝ }
-{
-    match format {
-        1 => Shape::Fields,
-        2 => Shape::Rest,
-        3 => Shape::Segments,
-        4 => Shape::Segments,
-        5 => Shape::Elements,
-        6 => Shape::Elements,
-        7 => Shape::Text,
-        9 => Shape::Counted,
-        _ => Shape::Unknown,
     }
 }
 

@@ -11,7 +11,7 @@ use lib.Seq.{take-append-seam, drop-append-seam}
 use lib.Dec.{eqb}
 use Rattle.label.specs.Bytes.{Bytes, every}
 use Rattle.label.specs.Limits.{rowWidth}
-use Rattle.label.specs.Formats.{Edition, ruleOf}
+use Rattle.label.specs.Formats.{widest, ruleOf}
 use Rattle.label.specs.Layout.{Item, Part, mark, item, Row, rowsFrom, itemsOf}
 use Rattle.label.specs.Message.{header}
 use Rattle.label.specs.Rendered.{marksBetween, renderedAfter, rendered}
@@ -69,46 +69,45 @@ front a b x y long same = record {
   rests = sym (drop-append-seam a x) ∙ (λ i. drop (long i) (same i)) ∙ drop-append-seam b y;
 }
 
-module _ (edition : Edition) where
-  same-content : (i j : Item) (is js : List Item) → likeItem i j ≡ true → (renderedAfter edition i is ≡ renderedAfter edition j js → is ≡ js)
-      → i .content ++ renderedAfter edition i is ≡ j .content ++ renderedAfter edition j js → i ∷ is ≡ j ∷ js
-  same-content i j is js like later same =
-      let so = like-so i j like in
-      let parted = front (i .content) (j .content) (renderedAfter edition i is) (renderedAfter edition j js) (so .lengths) same in
-      λ t. record { kind = so .kinds t; format = so .formats t; content = parted .fronts t } ∷ later (parted .rests) t
+same-content : (i j : Item) (is js : List Item) → likeItem i j ≡ true → (renderedAfter i is ≡ renderedAfter j js → is ≡ js)
+    → i .content ++ renderedAfter i is ≡ j .content ++ renderedAfter j js → i ∷ is ≡ j ∷ js
+same-content i j is js like later same =
+    let so = like-so i j like in
+    let parted = front (i .content) (j .content) (renderedAfter i is) (renderedAfter j js) (so .lengths) same in
+    λ t. record { kind = so .kinds t; format = so .formats t; content = parted .fronts t } ∷ later (parted .rests) t
 
-  same-after : (p q : Item) (is js : List Item) → p .kind ≡ q .kind → likeItems is js ≡ true → renderedAfter edition p is ≡ renderedAfter edition q js → is ≡ js
-  unfolding renderedAfter
-  same-after p q [] [] kinds like same = refl
-  same-after p q [] (j ∷ js) kinds like same = absurd (false≢true like)
-  same-after p q (i ∷ is) [] kinds like same = absurd (false≢true like)
-  same-after p q (i ∷ is) (j ∷ js) kinds like same =
-      let k = both (likeItem i j) (likeItems is js) like in
-      let so = like-so i j (k .left) in
-      let marks : marksBetween (ruleOf edition (i .format)) (p .kind) (i .kind) ≡ marksBetween (ruleOf edition (j .format)) (q .kind) (j .kind)
-      = λ t. marksBetween (ruleOf edition (so .formats t)) (kinds t) (so .kinds t) in
-      same-content i j is js (k .left) (same-after i j is js (so .kinds) (k .right))
-      (append-cancel-left (marksBetween (ruleOf edition (i .format)) (p .kind) (i .kind)) _ _
-      (same ∙ ap (λ b. b ++ (j .content ++ renderedAfter edition j js)) (sym marks)))
+same-after : (p q : Item) (is js : List Item) → p .kind ≡ q .kind → likeItems is js ≡ true → renderedAfter p is ≡ renderedAfter q js → is ≡ js
+unfolding renderedAfter
+same-after p q [] [] kinds like same = refl
+same-after p q [] (j ∷ js) kinds like same = absurd (false≢true like)
+same-after p q (i ∷ is) [] kinds like same = absurd (false≢true like)
+same-after p q (i ∷ is) (j ∷ js) kinds like same =
+    let k = both (likeItem i j) (likeItems is js) like in
+    let so = like-so i j (k .left) in
+    let marks : marksBetween (ruleOf widest (i .format)) (p .kind) (i .kind) ≡ marksBetween (ruleOf widest (j .format)) (q .kind) (j .kind)
+    = λ t. marksBetween (ruleOf widest (so .formats t)) (kinds t) (so .kinds t) in
+    same-content i j is js (k .left) (same-after i j is js (so .kinds) (k .right))
+    (append-cancel-left (marksBetween (ruleOf widest (i .format)) (p .kind) (i .kind)) _ _
+    (same ∙ ap (λ b. b ++ (j .content ++ renderedAfter j js)) (sym marks)))
 
-  same-rendered : (is js : List Item) → likeItems is js ≡ true → rendered edition is ≡ rendered edition js → is ≡ js
-  unfolding rendered
-  same-rendered [] [] like same = refl
-  same-rendered [] (j ∷ js) like same = absurd (false≢true like)
-  same-rendered (i ∷ is) [] like same = absurd (false≢true like)
-  same-rendered (i ∷ is) (j ∷ js) like same =
-      let k = both (likeItem i j) (likeItems is js) like in
-      same-content i j is js (k .left) (same-after i j is js (like-so i j (k .left) .kinds) (k .right)) (append-cancel-left header _ _ same)
+same-rendered : (is js : List Item) → likeItems is js ≡ true → rendered is ≡ rendered js → is ≡ js
+unfolding rendered
+same-rendered [] [] like same = refl
+same-rendered [] (j ∷ js) like same = absurd (false≢true like)
+same-rendered (i ∷ is) [] like same = absurd (false≢true like)
+same-rendered (i ∷ is) (j ∷ js) like same =
+    let k = both (likeItem i j) (likeItems is js) like in
+    same-content i j is js (k .left) (same-after i j is js (like-so i j (k .left) .kinds) (k .right)) (append-cancel-left header _ _ same)
 
-  -- so that items rendered to the same bytes are the same if they are alike, and only then
-  pub same-as-like : (is js : List Item) → rendered edition is ≡ rendered edition js → sameItems is js ≡ likeItems is js
-  same-as-like is js same = by (sameItems is js) (likeItems is js) refl refl
-    where
-      by : (s l : Bool) → sameItems is js ≡ s → likeItems is js ≡ l → s ≡ l
-      by true true hs hl = refl
-      by true false hs hl = sym (likes-self is) ∙ ap (likeItems is) (same-items is js hs) ∙ hl
-      by false true hs hl = sym hs ∙ ap (sameItems is) (sym (same-rendered is js hl same)) ∙ items-same is
-      by false false hs hl = refl
+-- so that items rendered to the same bytes are the same if they are alike, and only then
+pub same-as-like : (is js : List Item) → rendered is ≡ rendered js → sameItems is js ≡ likeItems is js
+same-as-like is js same = by (sameItems is js) (likeItems is js) refl refl
+  where
+    by : (s l : Bool) → sameItems is js ≡ s → likeItems is js ≡ l → s ≡ l
+    by true true hs hl = refl
+    by true false hs hl = sym (likes-self is) ∙ ap (likeItems is) (same-items is js hs) ∙ hl
+    by false true hs hl = sym hs ∙ ap (sameItems is) (sym (same-rendered is js hl same)) ∙ items-same is
+    by false false hs hl = refl
 
 -- Rows
 

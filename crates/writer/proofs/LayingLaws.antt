@@ -10,7 +10,7 @@ use borrow.Author.Tests.{leb-true, leb-false, eqb-true, ne-eqb}
 use lib.Dec.{leb, eqb}
 use Rattle.label.specs.Bytes.{Bytes, every}
 use Rattle.label.specs.Limits.{longest, rowWidth}
-use Rattle.label.specs.Formats.{edition2005, ruleOf}
+use Rattle.label.specs.Formats.{widest, ruleOf}
 use Rattle.label.specs.Layout.{Row}
 use Rattle.label.specs.Message.{header}
 use Rattle.label.specs.Rendered.{marksBetween, ending, renderedAfter, rendered}
@@ -113,19 +113,19 @@ module _ (held : Bytes) (ns : List ℕ) where
 
   first-step : rowWidth ≤ length ns → renderedFrom held ns 0 ≡ (marksBefore ns 0 ++ content 0) ++ renderedFrom held ns rowWidth
   unfolding rendered
-  first-step some = ap (λ rs. rendered edition2005 (map (itemIn held) rs)) (rows-step ns 0 some) ∙ sym (append-assoc header (content 0) (renderedFrom held ns rowWidth))
+  first-step some = ap (λ rs. rendered (map (itemIn held) rs)) (rows-step ns 0 some) ∙ sym (append-assoc header (content 0) (renderedFrom held ns rowWidth))
 
   later-step : (i : ℕ) → eqb i 0 ≡ false → i + rowWidth ≤ length ns → renderedFrom held ns i ≡ (marksBefore ns i ++ content i) ++ renderedFrom held ns (i + rowWidth)
   unfolding renderedAfter
   later-step i later inside =
       let prev = itemIn held (rowFrom ns (i - rowWidth)) in
       let back : i + rowWidth - rowWidth ≡ i = omega arith in
-      ap (λ t. cond t (rendered edition2005 (itemsIn held ns)) (renderedAfter edition2005 prev (itemsIn held (drop i ns)))) later
-      ∙ ap (λ rs. renderedAfter edition2005 prev (map (itemIn held) rs)) (rows-step ns i inside)
-      ∙ sym (append-assoc (marksBetween (ruleOf edition2005 (getD ns (i + 1) 0)) (getD ns (i - rowWidth) 0) (getD ns i 0)) (content i) (renderedAfter edition2005 (itemIn held (rowFrom ns i)) (itemsIn held (drop (i + rowWidth) ns))))
-      ∙ ap (λ t. (cond t header (marksBetween (ruleOf edition2005 (getD ns (i + 1) 0)) (getD ns (i - rowWidth) 0) (getD ns i 0)) ++ content i) ++ renderedAfter edition2005 (itemIn held (rowFrom ns i)) (itemsIn held (drop (i + rowWidth) ns))) (sym later)
-      ∙ ap (λ j. (marksBefore ns i ++ content i) ++ renderedAfter edition2005 (itemIn held (rowFrom ns j)) (itemsIn held (drop (i + rowWidth) ns))) (sym back)
-      ∙ ap (λ t. (marksBefore ns i ++ content i) ++ cond t (rendered edition2005 (itemsIn held ns)) (renderedAfter edition2005 (itemIn held (rowFrom ns (i + rowWidth - rowWidth))) (itemsIn held (drop (i + rowWidth) ns)))) (sym (ne-eqb (i + rowWidth) 0 (λ none. omega arith)))
+      ap (λ t. cond t (rendered (itemsIn held ns)) (renderedAfter prev (itemsIn held (drop i ns)))) later
+      ∙ ap (λ rs. renderedAfter prev (map (itemIn held) rs)) (rows-step ns i inside)
+      ∙ sym (append-assoc (marksBetween (ruleOf widest (getD ns (i + 1) 0)) (getD ns (i - rowWidth) 0) (getD ns i 0)) (content i) (renderedAfter (itemIn held (rowFrom ns i)) (itemsIn held (drop (i + rowWidth) ns))))
+      ∙ ap (λ t. (cond t header (marksBetween (ruleOf widest (getD ns (i + 1) 0)) (getD ns (i - rowWidth) 0) (getD ns i 0)) ++ content i) ++ renderedAfter (itemIn held (rowFrom ns i)) (itemsIn held (drop (i + rowWidth) ns))) (sym later)
+      ∙ ap (λ j. (marksBefore ns i ++ content i) ++ renderedAfter (itemIn held (rowFrom ns j)) (itemsIn held (drop (i + rowWidth) ns))) (sym back)
+      ∙ ap (λ t. (marksBefore ns i ++ content i) ++ cond t (rendered (itemsIn held ns)) (renderedAfter (itemIn held (rowFrom ns (i + rowWidth - rowWidth))) (itemsIn held (drop (i + rowWidth) ns)))) (sym (ne-eqb (i + rowWidth) 0 (λ none. omega arith)))
 
   pub rendered-step : (i : ℕ) → i + rowWidth ≤ length ns → renderedFrom held ns i ≡ (marksBefore ns i ++ content i) ++ renderedFrom held ns (i + rowWidth)
   rendered-step i inside = by (eqb i 0) refl
@@ -136,14 +136,14 @@ module _ (held : Bytes) (ns : List ℕ) where
           subst (λ (i : ℕ). renderedFrom held ns i ≡ (marksBefore ns i ++ content i) ++ renderedFrom held ns (i + rowWidth)) (sym first) (first-step (omega arith))
       by false is = later-step i is inside
 
-  pub rendered-end : (i : ℕ) → rowWidth ≤ i → length ns ≤ i → renderedFrom held ns i ≡ ending (ruleOf edition2005 (rowFrom ns (i - rowWidth) .format)) (rowFrom ns (i - rowWidth) .kind)
+  pub rendered-end : (i : ℕ) → rowWidth ≤ i → length ns ≤ i → renderedFrom held ns i ≡ ending (ruleOf widest (rowFrom ns (i - rowWidth) .format)) (rowFrom ns (i - rowWidth) .kind)
   unfolding renderedAfter
   rendered-end i some past =
-      ap (λ t. cond t (rendered edition2005 (itemsIn held ns)) (renderedAfter edition2005 (itemIn held (rowFrom ns (i - rowWidth))) (itemsIn held (drop i ns)))) (ne-eqb i 0 (λ none. omega arith))
-      ∙ ap (λ rs. renderedAfter edition2005 (itemIn held (rowFrom ns (i - rowWidth))) (map (itemIn held) rs)) (rows-past ns i past)
+      ap (λ t. cond t (rendered (itemsIn held ns)) (renderedAfter (itemIn held (rowFrom ns (i - rowWidth))) (itemsIn held (drop i ns)))) (ne-eqb i 0 (λ none. omega arith))
+      ∙ ap (λ rs. renderedAfter (itemIn held (rowFrom ns (i - rowWidth))) (map (itemIn held) rs)) (rows-past ns i past)
 
   -- nothing is laid yet
-  pub laying-none : (out : Bytes) → Laying (rendered edition2005 (itemsIn held ns)) (renderedFrom held ns 0) 0 out
+  pub laying-none : (out : Bytes) → Laying (rendered (itemsIn held ns)) (renderedFrom held ns 0) 0 out
   laying-none out = record { fits = λ _. refl; over = λ outside. absurd (omega arith) }
 
 -- the loop over the rows: what is laid before the row from an index on
@@ -153,7 +153,7 @@ pub record Turn (held : Bytes) (ns : List ℕ) (out : Bytes) (at i : ℕ) : Type
   pub whole : Whole ns
   pub buffer : length out ≡ longest
   pub lie : every (inside held) (rowsIn (drop i ns)) ≡ true
-  pub laying : Laying (rendered edition2005 (itemsIn held ns)) (renderedFrom held ns i) at out
+  pub laying : Laying (rendered (itemsIn held ns)) (renderedFrom held ns i) at out
 
 module _ (held : Bytes) (ns : List ℕ) where
   pub turn-first : (out : Bytes) → Buffered held ns out → Turn held ns out 0 0
@@ -175,7 +175,7 @@ module _ (held : Bytes) (ns : List ℕ) where
 
       pub turn-next : (out′ : Bytes) (r : ℕ) → Put out at (marksBefore ns i ++ itemIn held (rowFrom ns i) .content) out′ r → Turn held ns out′ r (i + rowWidth)
       turn-next out′ r put =
-          let w = rendered edition2005 (itemsIn held ns) in
+          let w = rendered (itemsIn held ns) in
           let room = next-whole ns i (turn .whole) (turn .even) more in
           record {
             upTo = room;
@@ -193,10 +193,10 @@ module _ (held : Bytes) (ns : List ℕ) where
       turn-last : i - rowWidth + rowWidth ≤ length ns
       turn-last = omega (arith, turn .upTo, turn .even)
 
-      pub turn-ends : (row : Row) (out′ : Bytes) (r : ℕ) → row ≡ rowOrNone ns (i - rowWidth) → Put out at (ending (ruleOf edition2005 (row .format)) (row .kind)) out′ r
-          → Laying (rendered edition2005 (itemsIn held ns)) [] r out′
+      pub turn-ends : (row : Row) (out′ : Bytes) (r : ℕ) → row ≡ rowOrNone ns (i - rowWidth) → Put out at (ending (ruleOf widest (row .format)) (row .kind)) out′ r
+          → Laying (rendered (itemsIn held ns)) [] r out′
       turn-ends row out′ r is put =
-          let w = rendered edition2005 (itemsIn held ns) in
-          let last = ending (ruleOf edition2005 (row .format)) (row .kind) in
-          let ends : renderedFrom held ns i ≡ last ++ [] = rendered-end held ns i (omega (arith, turn .upTo, turn .even)) past ∙ sym (ap (λ (row : Row). ending (ruleOf edition2005 (row .format)) (row .kind)) (is ∙ row-there ns (i - rowWidth) turn-last)) ∙ sym (append-nil last) in
+          let w = rendered (itemsIn held ns) in
+          let last = ending (ruleOf widest (row .format)) (row .kind) in
+          let ends : renderedFrom held ns i ≡ last ++ [] = rendered-end held ns i (omega (arith, turn .upTo, turn .even)) past ∙ sym (ap (λ (row : Row). ending (ruleOf widest (row .format)) (row .kind)) (is ∙ row-there ns (i - rowWidth) turn-last)) ∙ sym (append-nil last) in
           laying-put w last [] out out′ at r (subst (λ (left : Bytes). Laying w left at out) ends (turn .laying)) put

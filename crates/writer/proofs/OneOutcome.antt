@@ -6,5 +6,5 @@ use denote.Ref.{now}
 use Rattle.label.proofs.Numbers.{writings-by-answer}
 use Rattle.writer.proofs.write.Reads as write
 
-pub write-once : (κs : Lfts 3) (a : _) (r r′ : _) (s s′ : _) → write.Learnt κs a r s → write.Learnt κs a r′ s′ → (r ≡ r′) × (now (s .1 .1 .0) ≡ now (s′ .1 .1 .0))
+pub write-once : (κs : Lfts 3) (a : _) (r r′ : _) (s s′ : _) → write.Learnt κs a r s → write.Learnt κs a r′ s′ → (r ≡ r′) × (now (s .1 .1 .1 .0) ≡ now (s′ .1 .1 .1 .0))
 write-once κs a r r′ s s′ one two = (writings-by-answer r r′ (one .0 ∙ sym (two .0)), one .1 ∙ sym (two .1))

@@ -8,7 +8,7 @@ use lib.ListN.{length, getD, take, drop}
 use lib.Dec.{eqb}
 use Rattle.label.specs.Bytes.{Bytes}
 use Rattle.label.specs.Limits.{longest, rowWidth}
-use Rattle.label.specs.Formats.{edition2005, ruleOf}
+use Rattle.label.specs.Formats.{widest, ruleOf}
 use Rattle.label.specs.Message.{header}
 use Rattle.label.specs.Rendered.{marksBetween, renderedAfter, rendered}
 use Rattle.label.specs.Writing.{itemIn, itemsIn, inside, rowsStand}
@@ -28,13 +28,13 @@ pub record Laying (w left : Bytes) (at : ℕ) (out : Bytes) : Type 0 where
 
 -- what stands before a row: the message's header before the first, marks before a later one
 abbrev pub marksBefore : List ℕ → ℕ → Bytes
-marksBefore ns i = cond (eqb i 0) header (marksBetween (ruleOf edition2005 (getD ns (i + 1) 0)) (getD ns (i - rowWidth) 0) (getD ns i 0))
+marksBefore ns i = cond (eqb i 0) header (marksBetween (ruleOf widest (getD ns (i + 1) 0)) (getD ns (i - rowWidth) 0) (getD ns i 0))
 
 -- what the rows render to, from one of them on
 abbrev pub renderedFrom : Bytes → List ℕ → ℕ → Bytes
 renderedFrom held ns i =
-    cond (eqb i 0) (rendered edition2005 (itemsIn held ns))
-    (renderedAfter edition2005 (itemIn held (rowFrom ns (i - rowWidth))) (itemsIn held (drop i ns)))
+    cond (eqb i 0) (rendered (itemsIn held ns))
+    (renderedAfter (itemIn held (rowFrom ns (i - rowWidth))) (itemsIn held (drop i ns)))
 
 -- a row's numbers stand from an index on
 pub record RowAt (ns : List ℕ) (i : ℕ) : Type 0 where

@@ -11,7 +11,6 @@ ghost use mathlib.Core.Path.{_≡_};
 ghost use mathlib.Core.List.{[], _++_};
 ghost use lib.ListN.{length};
 ghost use Rattle.label.specs.Limits.{longest};
-ghost use Rattle.label.specs.Formats.{edition2005};
 ghost use Rattle.label.specs.Rendered.{rendered};
 ghost use Rattle.label.specs.Writing.{itemIn, itemsIn};
 ghost use Rattle.label.specs.Counting.{rowFrom};
@@ -70,7 +69,7 @@ fn put_row(held: &[u8], rows: &[u32], i: usize, out: &mut [u8], at: usize) -> us
 // Lays out the message of the rows, and answers its length; one that lies outside the buffer where the message is longer.
 pub(crate) fn lay_out(held: &[u8], rows: &[u32], out: &mut [u8]) -> usize
     requires { ⌜ Buffered (now held) (now rows) (now out) × (0 < length (now rows)) ⌝ }
-    ensures { λ r. ⌜ Laying (rendered edition2005 (itemsIn (now (held .entry)) (now (rows .entry)))) [] r (now (out .exit)) ⌝ }
+    ensures { λ r. ⌜ Laying (rendered (itemsIn (now (held .entry)) (now (rows .entry)))) [] r (now (out .exit)) ⌝ }
 {
     let mut at = 0;
     let mut i = 0;

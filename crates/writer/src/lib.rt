@@ -3,25 +3,25 @@
 mod laying;
 mod marks;
 
+use label::Edition;
 use label::LONGEST;
 use label::ROW;
 use label::WriteReason;
 use label::Writing;
 ghost use mathlib.Core.Path.{_≡_};
 ghost use lib.ListN.{length};
-ghost use Rattle.label.specs.Formats.{edition2005};
 ghost use Rattle.label.specs.ReadMessage.{reading};
 ghost use Rattle.label.specs.Answer.{rowsRead};
 ghost use Rattle.label.specs.Writing.{rowsIn, ordinalsIn, itemsIn, composed, writeAnswerOf, writeAnswer, outputAfter};
 ghost use Rattle.given.specs.Given.{Whole, alike};
 ghost use Rattle.writer.specs.Laying.{Buffered, Composes};
 
-// Whether a message is read, and its rows have the kinds, formats and lengths of those given.
-fn same_rows(m: &[u8], rows: &[u32]) -> bool
+// Whether a message is read in an edition, and its rows have the kinds, formats and lengths of those given.
+fn same_rows(edition: Edition, m: &[u8], rows: &[u32]) -> bool
     requires { ⌜ Whole (now rows) ⌝ }
-    ensures { λ r. ⌜ r ≡ alike (rowsRead (reading edition2005 (now (m .entry)))) (rowsIn (now (rows .entry))) ⌝ }
+    ensures { λ r. ⌜ r ≡ alike (rowsRead (reading edition (now (m .entry)))) (rowsIn (now (rows .entry))) ⌝ }
 {
-    if stretches::rows_of(m) != rows.len() / ROW {
+    if stretches::rows_of(edition, m) != rows.len() / ROW {
         return false;
     }
     let mut c = steps::first(m);
@@ -36,12 +36,12 @@ fn same_rows(m: &[u8], rows: &[u32]) -> bool
     true
 }
 
-// Puts the good message with these rows' kinds, formats, contents and ordinals into the first bytes of a buffer, and answers how
+// Puts the good message in an edition with these rows' kinds, formats, contents and ordinals into the first bytes of a buffer, and answers how
 // many they are; 0 where there is no such message. Rows of the same lengths that are laid out alike have the same contents, so
 // that no content is compared; and ordinals that are counted right are those of any message with these rows.
-fn compose(held: &[u8], rows: &[u32], out: &mut [u8]) -> usize
+fn compose(edition: Edition, held: &[u8], rows: &[u32], out: &mut [u8]) -> usize
     requires { ⌜ Buffered (now held) (now rows) (now out) ⌝ }
-    ensures { λ r. ⌜ Composes (composed edition2005 (itemsIn (now (held .entry)) (now (rows .entry))) (ordinalsIn (now (rows .entry)))) r (now (out .exit)) ⌝ }
+    ensures { λ r. ⌜ Composes (composed edition (itemsIn (now (held .entry)) (now (rows .entry))) (ordinalsIn (now (rows .entry)))) r (now (out .exit)) ⌝ }
 {
     if rows.len() == 0 {
         return 0;
@@ -53,25 +53,25 @@ fn compose(held: &[u8], rows: &[u32], out: &mut [u8]) -> usize
     if out.len() < count {
         return 0;
     }
-    if same_rows(&out[..count], rows) {
+    if same_rows(edition, &out[..count], rows) {
         count
     } else {
         0
     }
 }
 
-// Writes rows, five numbers each, that name stretches of the data held, to an output; all of any length. Written: how many
+// Writes rows in an edition, five numbers each, that name stretches of the data held, to an output; all of any length. Written: how many
 // bytes, and the output's first bytes are the message; what follows them stays as it was. Declined: why, and the output stays
 // as it was.
-pub fn write(held: &[u8], rows: &[u32], output: &mut [u8]) -> Writing
-    ensures answer { λ r. ⌜ writeAnswerOf r ≡ writeAnswer edition2005 (now (held .entry)) (now (rows .entry)) (length (now (output .entry))) ⌝ }
-    ensures bytes { λ _. ⌜ now (output .exit) ≡ outputAfter edition2005 (now (held .entry)) (now (rows .entry)) (now (output .entry)) ⌝ }
+pub fn write(edition: Edition, held: &[u8], rows: &[u32], output: &mut [u8]) -> Writing
+    ensures answer { λ r. ⌜ writeAnswerOf r ≡ writeAnswer edition (now (held .entry)) (now (rows .entry)) (length (now (output .entry))) ⌝ }
+    ensures bytes { λ _. ⌜ now (output .exit) ≡ outputAfter edition (now (held .entry)) (now (rows .entry)) (now (output .entry)) ⌝ }
 {
     if !given::rows_stand(held, rows) {
         return Writing::Declined(WriteReason::BadRows);
     }
     let mut candidate = [0u8; LONGEST];
-    let count = compose(held, rows, &mut candidate);
+    let count = compose(edition, held, rows, &mut candidate);
     if count == 0 {
         return Writing::Declined(WriteReason::NoSuchMessage);
     }

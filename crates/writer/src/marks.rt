@@ -1,4 +1,5 @@
 // The marks around rows: before the first, between two, behind the last. Which they are follows from kinds and formats.
+use formats::Shape;
 use label::HEADER;
 use label::HEADER_LENGTH;
 use leaves::EOT;
@@ -6,14 +7,13 @@ use leaves::FS;
 use leaves::GS;
 use leaves::RS;
 use leaves::US;
-use walk::Shape;
 ghost use Prim.Native.Nat.{_≤_};
 ghost use mathlib.Core.Path.{_≡_};
 ghost use mathlib.Core.Bool.{_&&_};
 ghost use mathlib.Core.List.{[], _∷_};
 ghost use lib.ListN.{length};
 ghost use lib.Dec.{leb};
-ghost use Rattle.label.specs.Formats.{edition2005, ruleOf};
+ghost use Rattle.label.specs.Formats.{widest, ruleOf};
 ghost use Rattle.label.specs.Written.{tagRow, subElementRow};
 ghost use Rattle.label.specs.Message.{header};
 ghost use Rattle.label.specs.Rendered.{beforeValue, closing, marksBetween, ending};
@@ -59,11 +59,12 @@ pub(crate) fn heading() -> Marks
 // Before a header value, by the format.
 fn before_value(format: u32) -> Marks
     ensures few { λ r. ⌜ r .count ≤ length (r .bytes) ⌝ }
-    ensures marks { λ r. ⌜ marksOf r ≡ beforeValue (ruleOf edition2005 format) ⌝ }
+    ensures marks { λ r. ⌜ marksOf r ≡ beforeValue (ruleOf widest format) ⌝ }
 {
-    let shape = walk::shape_of(format);
+    let shape = formats::shape_of(format as usize);
     match shape {
-        Shape::Segments => none(),
+        Shape::Segments03 => none(),
+        Shape::Segments04 => none(),
         _ => one(GS),
     }
 }
@@ -92,7 +93,7 @@ fn closing_of(p: u32) -> Marks
 // Between a row of kind p and a row of kind k in a format.
 pub(crate) fn between(format: u32, p: u32, k: u32) -> Marks
     ensures few { λ r. ⌜ r .count ≤ length (r .bytes) ⌝ }
-    ensures marks { λ r. ⌜ marksOf r ≡ marksBetween (ruleOf edition2005 format) p k ⌝ }
+    ensures marks { λ r. ⌜ marksOf r ≡ marksBetween (ruleOf widest format) p k ⌝ }
 {
     match k {
         1 => closing_of(p),
@@ -115,9 +116,9 @@ pub(crate) fn between(format: u32, p: u32, k: u32) -> Marks
 // Behind the last row, of kind p: the envelope's and the message's end; nothing where the format takes all the rest.
 pub(crate) fn ending_of(format: u32, p: u32) -> Marks
     ensures few { λ r. ⌜ r .count ≤ length (r .bytes) ⌝ }
-    ensures marks { λ r. ⌜ marksOf r ≡ ending (ruleOf edition2005 format) p ⌝ }
+    ensures marks { λ r. ⌜ marksOf r ≡ ending (ruleOf widest format) p ⌝ }
 {
-    let shape = walk::shape_of(format);
+    let shape = formats::shape_of(format as usize);
     match shape {
         Shape::Rest => none(),
         _ => if in_segment(p) {

@@ -7,6 +7,7 @@ use native.Mathlib.Omega.{arith}
 use borrow.Author.Tests.{leb-true, leb-false, lt-ltb}
 use lib.ListN.{length, getD, drop, length-append}
 use lib.Dec.{leb, ltb}
+use Rattle.label.specs.declared.Edition.{Edition}
 use Rattle.label.specs.declared.Counts.{Counts}
 use Rattle.label.specs.declared.Refusal.{Refusal}
 use Rattle.label.specs.declared.Reason.the-variants.{TooLong, NoMessageHeader, NoRoom}
@@ -15,7 +16,6 @@ use Rattle.label.specs.declared.Writing.the-variants.{Written}
 use Rattle.label.specs.Bytes.{Bytes, EOT, RS}
 use Rattle.label.specs.Limits.{longest, mostRows}
 use Rattle.label.specs.Layout.{bytesOf}
-use Rattle.label.specs.Formats.{edition2005}
 use Rattle.label.specs.Envelope.{Envelope}
 use Rattle.label.specs.Written.{parts}
 use Rattle.label.specs.Message.{header, isRestAlone, message, rowsOf}
@@ -26,11 +26,11 @@ use Rattle.label.proofs.MessageBytes.{closedBytes, message-closed}
 use Rattle.label.proofs.Promises.{accepted-is-good, place-within}
 use Rattle.label.proofs.Composing.{tells}
 
-too-long : (m : Bytes) → longest < length m → reading edition2005 m ≡ refused TooLong longest
+too-long : (edition : Edition) (m : Bytes) → longest < length m → reading edition m ≡ refused TooLong longest
 unfolding reading
-too-long m long =
+too-long edition m long =
     ap (λ t. cond t (refused TooLong longest)
-    (cond (ltb (agreement header m) (length header)) (refused NoMessageHeader (agreement header m)) (withinRows (walk edition2005 m (enough m) true (drop (length header) m)))))
+    (cond (ltb (agreement header m) (length header)) (refused NoMessageHeader (agreement header m)) (withinRows (walk edition m (enough m) true (drop (length header) m)))))
     (lt-ltb longest (length m) long)
 
 -- envelopes are no more than bytes
@@ -50,38 +50,38 @@ envelopes-few es short = by (isRestAlone es) refl
     by true is = omega (arith, alone-one es is)
     by false is = omega (arith, ap length (message-closed es is), length-append header (closedBytes es (EOT ∷ [])), closed-long es (EOT ∷ []))
 
-module _ (m : Bytes) (room : ℕ) where
+module _ (edition : Edition) (m : Bytes) (room : ℕ) where
   pub record CountsSmall (counts : Counts) : Type 0 where
     pub envelopes : counts .envelopes ≤ longest
     pub rows : counts .rows ≤ mostRows
 
-  pub counts-small : (counts : Counts) → answerOf (Accepted counts) ≡ readAnswer edition2005 m room → CountsSmall counts
+  pub counts-small : (counts : Counts) → answerOf (Accepted counts) ≡ readAnswer edition m room → CountsSmall counts
   unfolding readAnswer
-  counts-small counts says = by (reading edition2005 m) refl says
+  counts-small counts says = by (reading edition m) refl says
     where
       by-room : (t : Bool) (e r : ℕ) → accepted (counts .envelopes) (counts .rows) ≡ cond t (refusal NoRoom 0) (accepted e r) → e ≤ longest → r ≤ mostRows → CountsSmall counts
       by-room true e r says es rs = absurd (omega (arith, ap length says))
       by-room false e r says es rs = record { envelopes = omega (arith, ap (λ l. getD l 1 0) says); rows = omega (arith, ap (λ l. getD l 2 0) says) }
 
-      by : (o : Outcome) → reading edition2005 m ≡ o → answerOf (Accepted counts) ≡ answered room o → CountsSmall counts
+      by : (o : Outcome) → reading edition m ≡ o → answerOf (Accepted counts) ≡ answered room o → CountsSmall counts
       by (read es) is says =
-          let good = accepted-is-good edition2005 m es is in
+          let good = accepted-is-good edition m es is in
           by-room (ltb room (length (rowsOf es))) (length es) (length (rowsOf es)) says (envelopes-few es (omega (arith, ap length (good .writesOut), good .notTooLong))) (good .notTooMany)
       by (refused r p) is says = absurd (omega (arith, ap length says))
 
-  pub place-small : (r : Refusal) → answerOf (Refused r) ≡ readAnswer edition2005 m room → r .place ≤ longest
+  pub place-small : (r : Refusal) → answerOf (Refused r) ≡ readAnswer edition m room → r .place ≤ longest
   unfolding readAnswer
   place-small r says = by (leb (length m) longest) refl
     where
       by : (t : Bool) → leb (length m) longest ≡ t → r .place ≤ longest
-      by true is = omega (arith, leb-true (length m) longest is, place-within edition2005 m (r .reason) (r .place) room (sym says))
-      by false is = omega (arith, ap (λ l. getD l 1 0) (says ∙ ap (answered room) (too-long m (leb-false (length m) longest is))))
+      by true is = omega (arith, leb-true (length m) longest is, place-within edition m (r .reason) (r .place) room (sym says))
+      by false is = omega (arith, ap (λ l. getD l 1 0) (says ∙ ap (answered room) (too-long edition m (leb-false (length m) longest is))))
 
 -- what is written is no longer than a message
-pub count-small : (held : Bytes) (ns : List ℕ) (room n : ℕ) → writeAnswerOf (Written n) ≡ writeAnswer edition2005 held ns room → n ≤ longest
+pub count-small : (edition : Edition) (held : Bytes) (ns : List ℕ) (room n : ℕ) → writeAnswerOf (Written n) ≡ writeAnswer edition held ns room → n ≤ longest
 unfolding writeAnswer
-count-small held ns room n says = by (writing edition2005 held ns room) refl says
+count-small edition held ns room n says = by (writing edition held ns room) refl says
   where
-    by : (c : Composition) → writing edition2005 held ns room ≡ c → writeAnswerOf (Written n) ≡ composedAnswer c → n ≤ longest
-    by (written w) is says = omega (arith, ap (λ l. getD l 1 0) says, tells edition2005 held ns room (written w) is .2 .good .notTooLong)
+    by : (c : Composition) → writing edition held ns room ≡ c → writeAnswerOf (Written n) ≡ composedAnswer c → n ≤ longest
+    by (written w) is says = omega (arith, ap (λ l. getD l 1 0) says, tells edition held ns room (written w) is .2 .good .notTooLong)
     by (declined reason) is says = absurd (omega (arith, ap length says))

@@ -1,15 +1,22 @@
--- How answers cross the border to other languages: as structs of numbers, in which what does not apply is 0.
+-- How calls and answers cross the border to other languages: an edition as a year, answers as structs of numbers, in which what does not apply is 0.
 use Prim.Native.Nat.{ℕ}
+use mathlib.Core.Bool.{cond}
 use mathlib.Core.List.{List, [], _∷_}
 use lib.ListN.{length}
+use lib.Dec.{ltb}
+use Rattle.label.specs.declared.Edition.{Edition}
+use Rattle.label.specs.declared.Edition.the-variants.{Edition2005, Edition2025}
 use Rattle.label.specs.Bytes.{Bytes}
-use Rattle.label.specs.Formats.{edition2005}
 use Rattle.label.specs.Part.{partOf}
 use Rattle.label.specs.Answer.{roomOf, readAnswer}
 use Rattle.label.specs.Writing.{writeAnswer}
 use Rattle.zielorad.specs.declared.ZieloradReading.{ZieloradReading}
 use Rattle.zielorad.specs.declared.ZieloradWritten.{ZieloradWritten}
 use Rattle.zielorad.specs.declared.ZieloradPart.{ZieloradPart}
+
+-- the edition that a year means: below 2025 that of 2005, from 2025 on that of 2025 (02, No. 3)
+abbrev pub editionIn : ℕ → Edition
+editionIn year = cond (ltb year 2025) Edition2005 Edition2025
 
 -- a reading's numbers: three are an acceptance, which has no place; two a refusal, which has no counts
 abbrev pub readingOf : List ℕ → ZieloradReading
@@ -25,11 +32,11 @@ writtenOf (n ∷ []) = record { number = n; count = 0 }
 writtenOf (n ∷ (count ∷ more)) = record { number = n; count = count }
 
 -- what each function answers
-abbrev pub readingFor : Bytes → List ℕ → ZieloradReading
-readingFor m table = readingOf (readAnswer edition2005 m (roomOf table))
+abbrev pub readingFor : ℕ → Bytes → List ℕ → ZieloradReading
+readingFor year m table = readingOf (readAnswer (editionIn year) m (roomOf table))
 
-abbrev pub writtenFor : Bytes → List ℕ → Bytes → ZieloradWritten
-writtenFor held ns output = writtenOf (writeAnswer edition2005 held ns (length output))
+abbrev pub writtenFor : ℕ → Bytes → List ℕ → Bytes → ZieloradWritten
+writtenFor year held ns output = writtenOf (writeAnswer (editionIn year) held ns (length output))
 
-abbrev pub partFor : Bytes → ℕ → ZieloradPart
-partFor m row = record { start = partOf edition2005 m row .start; length = partOf edition2005 m row .length }
+abbrev pub partFor : ℕ → Bytes → ℕ → ZieloradPart
+partFor year m row = record { start = partOf (editionIn year) m row .start; length = partOf (editionIn year) m row .length }

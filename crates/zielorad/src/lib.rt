@@ -1,12 +1,12 @@
 // The library for other programs: reading, writing and parts, with answers as structs of numbers. `rt staticlib zielorad` makes
 // the archive; zielorad.h tells C and C++ of it. Each function is thin over the proved one and has the same equations.
+use label::Edition;
 use label::Reading;
 use label::Writing;
 ghost use mathlib.Core.Path.{_≡_};
-ghost use Rattle.label.specs.Formats.{edition2005};
 ghost use Rattle.label.specs.Answer.{tableAfter};
 ghost use Rattle.label.specs.Writing.{outputAfter};
-ghost use Rattle.zielorad.specs.Crossing.{readingFor, writtenFor, partFor};
+ghost use Rattle.zielorad.specs.Crossing.{editionIn, readingFor, writtenFor, partFor};
 
 // What reading answers: number 0 is acceptance, with the counts; any other a refusal, with its place.
 #[repr(C)]
@@ -31,13 +31,27 @@ pub struct ZieloradPart {
     pub length: usize,
 }
 
-// Reads a message into a table; see `reader::read`.
-#[no_mangle]
-pub extern "C" fn zielorad_read(message: &[u8], table: &mut [u32]) -> ZieloradReading
-    ensures answer { λ r. ⌜ r ≡ readingFor (now (message .entry)) (now (table .entry)) ⌝ }
-    ensures rows { λ _. ⌜ now (table .exit) ≡ tableAfter edition2005 (now (message .entry)) (now (table .entry)) ⌝ }
+// The first year that the edition of 2025 is meant by.
+const YEAR_2025: u32 = 2025;
+
+// The edition that a year means (02, No. 3): every number means one.
+fn edition_in(year: u32) -> Edition
+    ensures { λ r. ⌜ r ≡ editionIn year ⌝ }
 {
-    let reading = reader::read(message, table);
+    if year < YEAR_2025 {
+        Edition::Edition2005
+    } else {
+        Edition::Edition2025
+    }
+}
+
+// Reads a message into a table, in the edition that a year means; see `reader::read`.
+#[no_mangle]
+pub extern "C" fn zielorad_read(edition: u32, message: &[u8], table: &mut [u32]) -> ZieloradReading
+    ensures answer { λ r. ⌜ r ≡ readingFor edition (now (message .entry)) (now (table .entry)) ⌝ }
+    ensures rows { λ _. ⌜ now (table .exit) ≡ tableAfter (editionIn edition) (now (message .entry)) (now (table .entry)) ⌝ }
+{
+    let reading = reader::read(edition_in(edition), message, table);
     match reading {
         Reading::Accepted(counts) => ZieloradReading {
             number: 0,
@@ -59,11 +73,16 @@ pub extern "C" fn zielorad_read(message: &[u8], table: &mut [u32]) -> ZieloradRe
 
 // Writes rows over data to an output; see `writer::write`.
 #[no_mangle]
-pub extern "C" fn zielorad_write(held: &[u8], rows: &[u32], output: &mut [u8]) -> ZieloradWritten
-    ensures answer { λ r. ⌜ r ≡ writtenFor (now (held .entry)) (now (rows .entry)) (now (output .entry)) ⌝ }
-    ensures bytes { λ _. ⌜ now (output .exit) ≡ outputAfter edition2005 (now (held .entry)) (now (rows .entry)) (now (output .entry)) ⌝ }
+pub extern "C" fn zielorad_write(
+    edition: u32,
+    held: &[u8],
+    rows: &[u32],
+    output: &mut [u8],
+) -> ZieloradWritten
+    ensures answer { λ r. ⌜ r ≡ writtenFor edition (now (held .entry)) (now (rows .entry)) (now (output .entry)) ⌝ }
+    ensures bytes { λ _. ⌜ now (output .exit) ≡ outputAfter (editionIn edition) (now (held .entry)) (now (rows .entry)) (now (output .entry)) ⌝ }
 {
-    let writing = writer::write(held, rows, output);
+    let writing = writer::write(edition_in(edition), held, rows, output);
     match writing {
         Writing::Written(count) => ZieloradWritten {
             number: 0,
@@ -78,10 +97,10 @@ pub extern "C" fn zielorad_write(held: &[u8], rows: &[u32], output: &mut [u8]) -
 
 // Where the part of a row lies; see `reader::part`, which hands it back.
 #[no_mangle]
-pub extern "C" fn zielorad_part_of(message: &[u8], row: usize) -> ZieloradPart
-    ensures { λ r. ⌜ r ≡ partFor (now (message .entry)) row ⌝ }
+pub extern "C" fn zielorad_part_of(edition: u32, message: &[u8], row: usize) -> ZieloradPart
+    ensures { λ r. ⌜ r ≡ partFor edition (now (message .entry)) row ⌝ }
 {
-    let stretch = reader::stretch_of(message, row);
+    let stretch = reader::stretch_of(edition_in(edition), message, row);
     ZieloradPart {
         start: stretch.start,
         length: stretch.length,

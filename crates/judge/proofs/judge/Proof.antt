@@ -13,7 +13,7 @@ refusal-requires : tie.Need-refusal-requires
 refusal-requires c κs = search needs
 
 returns : tie.Need-returns
-returns c = c .refusal .ensures ∙ judge-long (c .before .before .before .args .m .now) (c .before .if1 .taken)
+returns c = c .refusal .ensures ∙ judge-long (c .before .before .before .args .edition) (c .before .before .before .args .m .now) (c .before .if1 .taken)
 
 slice-aggregate-agree : tie.Need-slice-aggregate-agree
 slice-aggregate-agree c = search needs
@@ -25,7 +25,7 @@ refusal-requires-2 : tie.Need-refusal-requires-2
 refusal-requires-2 c κs = search needs
 
 returns-2 : tie.Need-returns-2
-returns-2 c = c .refusal2 .ensures ∙ judge-header (c .before .before .before .before .before .before .args .m .now) (c .before .before .agree .result) (c .before .before .before .before .if1 .left) (c .before .before .agree .ensures) (c .before .if2 .taken)
+returns-2 c = c .refusal2 .ensures ∙ judge-header (c .before .before .before .before .before .before .args .edition) (c .before .before .before .before .before .before .args .m .now) (c .before .before .agree .result) (c .before .before .before .before .if1 .left) (c .before .before .agree .ensures) (c .before .if2 .taken)
 
 walk-envelopes-requires : tie.Need-walk-envelopes-requires
 walk-envelopes-requires c κs =
@@ -43,7 +43,7 @@ returns-3 c =
     let inside = agreement-inside header (c .before .before .before .before .before .before .before .args .m .now) in
     c .within-rows .ensures
     ∙ ap limited (c .before .walk-envelopes .ensures)
-    ∙ judge-walk (c .before .before .before .before .before .before .before .args .m .now) (c .before .before .before .before .before .if1 .left) (omega arith) (omega arith)
+    ∙ judge-walk (c .before .before .before .before .before .before .before .args .edition) (c .before .before .before .before .before .before .before .args .m .now) (c .before .before .before .before .before .if1 .left) (omega arith) (omega arith)
 
 pub judge-spec : {M : Type 1} → statement M
 judge-spec =

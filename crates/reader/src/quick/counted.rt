@@ -19,9 +19,8 @@ use walk::Stage;
 use walk::count_from;
 use walk::standing_at;
 ghost use Prim.Native.Nat.{_+_};
-ghost use Rattle.label.specs.Formats.{edition2005, ruleOf};
+ghost use Rattle.label.specs.Formats.{widest, ruleOf};
 ghost use Rattle.envelope.specs.Formats.{countFound, compressionFound};
-ghost use Rattle.walk.specs.Shapes.{shapeOf};
 ghost use Rattle.walk.specs.Cursors.{opening};
 ghost use Rattle.sweeps.specs.Quick.{IfAny, FormatSwept, StandsAt};
 ghost use Rattle.sweeps.specs.Counted.{Due, PlainBytes, ValueSwept, PartSwept};
@@ -100,7 +99,7 @@ pub(crate) fn sweep_counted(
     rows: usize,
     notes: &mut [u16],
 ) -> Passed
-    requires { ⌜ StandsAt (now m) w at rows (now notes) (opening (now m) 9 at (shapeOf (ruleOf edition2005 9))) ⌝ }
+    requires { ⌜ StandsAt (now m) w at rows (now notes) (opening (now m) 9 at (ruleOf widest 9)) ⌝ }
     ensures { λ r. ⌜ IfAny (r .next) (FormatSwept (now (m .entry)) (w .from) 9 at rows r (now (notes .exit))) ⌝ }
 {
     if w.most <= rows {

@@ -15,9 +15,8 @@ ghost use mathlib.Core.Path.{_≡_};
 ghost use Prim.Native.Nat.{_+_, _<_};
 ghost use lib.ListN.{length, drop};
 ghost use Rattle.label.specs.Elements.{element06};
-ghost use Rattle.label.specs.Formats.{edition2005, ruleOf};
+ghost use Rattle.label.specs.Formats.{widest, ruleOf};
 ghost use Rattle.pieces.specs.PieceTests.{pieceTest};
-ghost use Rattle.walk.specs.Shapes.{shapeOf};
 ghost use Rattle.walk.specs.Cursors.{plainRow, opening};
 ghost use Rattle.sweeps.specs.Quick.{Framed, PassesTo, IfAny, digitRun, ElementsOf, BodySwept, FormatSwept, StandsAt};
 
@@ -117,7 +116,7 @@ pub(crate) fn sweep_elements(
     rows: usize,
     notes: &mut [u16],
 ) -> Passed
-    requires { ⌜ ElementsOf k f × StandsAt (now m) w at rows (now notes) (opening (now m) f at (shapeOf (ruleOf edition2005 f))) ⌝ }
+    requires { ⌜ ElementsOf k f × StandsAt (now m) w at rows (now notes) (opening (now m) f at (ruleOf widest f)) ⌝ }
     ensures { λ r. ⌜ IfAny (r .next) (FormatSwept (now (m .entry)) (w .from) f at rows r (now (notes .exit))) ⌝ }
 {
     if m[at] != GS {

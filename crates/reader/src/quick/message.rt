@@ -6,7 +6,10 @@ use crate::quick::notes::note;
 use crate::quick::segments::sweep_segments;
 use crate::quick::text::sweep_text;
 use crate::quick::transport::sweep_transport;
+use formats::Shape;
+use formats::shape_in;
 use label::Counts;
+use label::Edition;
 use label::HEADER;
 use label::HEADER_LENGTH;
 use label::LONGEST;
@@ -20,32 +23,47 @@ use walk::standing_at;
 ghost use Prim.Native.Nat.{_≤_, _<_};
 ghost use lib.ListN.{length};
 ghost use Rattle.label.specs.Limits.{mostRows};
-ghost use Rattle.label.specs.Formats.{edition2005, ruleOf};
-ghost use Rattle.walk.specs.Shapes.{shapeOf};
+ghost use Rattle.label.specs.Formats.{widest, ruleOf};
 ghost use Rattle.walk.specs.Cursors.{indicatorAt, opening};
-ghost use Rattle.sweeps.specs.Quick.{IfAny, FormatSwept, EnvelopeSwept, IfSo, Headed, SaysNothing, EndsSo, SweptSo, StandsAt};
+ghost use Rattle.sweeps.specs.Quick.{IfAny, KnownSwept, EnvelopeSwept, IfSo, Headed, SaysNothing, EndsSo, SweptSo, StandsAt};
 
-// The format with a number, behind its indicator.
-fn sweep_format(m: &[u8], w: Wanted, f: u32, at: usize, rows: usize, notes: &mut [u16]) -> Passed
-    requires { ⌜ StandsAt (now m) w at rows (now notes) (opening (now m) f at (shapeOf (ruleOf edition2005 f))) ⌝ }
-    ensures { λ r. ⌜ IfAny (r .next) (FormatSwept (now (m .entry)) (w .from) f at rows r (now (notes .exit))) ⌝ }
+// The format with a number, behind its indicator, by the shape that the edition gives it.
+fn sweep_format(
+    edition: Edition,
+    m: &[u8],
+    w: Wanted,
+    f: u32,
+    at: usize,
+    rows: usize,
+    notes: &mut [u16],
+) -> Passed
+    requires { ⌜ StandsAt (now m) w at rows (now notes) (opening (now m) f at (ruleOf widest f)) ⌝ }
+    ensures { λ r. ⌜ IfAny (r .next) (KnownSwept edition (now (m .entry)) (w .from) f at rows r (now (notes .exit))) ⌝ }
 {
-    match f {
-        1 => sweep_transport(m, w, at, rows, notes),
-        3 => sweep_segments(m, w, 3, at, rows, notes),
-        4 => sweep_segments(m, w, 4, at, rows, notes),
-        5 => sweep_elements(m, w, Kind::Elements05, 5, at, rows, notes),
-        6 => sweep_elements(m, w, Kind::Elements06, 6, at, rows, notes),
-        7 => sweep_text(m, w, at, rows, notes),
-        9 => sweep_counted(m, w, at, rows, notes),
+    let shape = shape_in(edition, f as usize);
+    match shape {
+        Shape::Fields => sweep_transport(m, w, at, rows, notes),
+        Shape::Segments03 => sweep_segments(m, w, 3, at, rows, notes),
+        Shape::Segments04 => sweep_segments(m, w, 4, at, rows, notes),
+        Shape::Elements05 => sweep_elements(m, w, Kind::Elements05, 5, at, rows, notes),
+        Shape::Elements06 => sweep_elements(m, w, Kind::Elements06, 6, at, rows, notes),
+        Shape::Text => sweep_text(m, w, at, rows, notes),
+        Shape::Counted => sweep_counted(m, w, at, rows, notes),
         _ => given_up(rows),
     }
 }
 
 // An envelope: its indicator, 00 to 09, and its format.
-fn sweep_envelope(m: &[u8], w: Wanted, at: usize, rows: usize, notes: &mut [u16]) -> Passed
+fn sweep_envelope(
+    edition: Edition,
+    m: &[u8],
+    w: Wanted,
+    at: usize,
+    rows: usize,
+    notes: &mut [u16],
+) -> Passed
     requires { ⌜ StandsAt (now m) w at rows (now notes) (indicatorAt (now m) at) ⌝ }
-    ensures { λ r. ⌜ IfAny (r .next) (EnvelopeSwept (now (m .entry)) (w .from) at rows r (now (notes .exit))) ⌝ }
+    ensures { λ r. ⌜ IfAny (r .next) (EnvelopeSwept edition (now (m .entry)) (w .from) at rows r (now (notes .exit))) ⌝ }
 {
     if m.len() - at < 3 {
         return given_up(rows);
@@ -59,7 +77,7 @@ fn sweep_envelope(m: &[u8], w: Wanted, at: usize, rows: usize, notes: &mut [u16]
     }
     let f = (units - 0x30) as u32;
     note(notes, w.from, rows, standing_at(Stage::Indicator, f, at, 2));
-    sweep_format(m, w, f, at + 2, rows + 1, notes)
+    sweep_format(edition, m, w, f, at + 2, rows + 1, notes)
 }
 
 // Whether a message is short enough, begins with its header and ends with EOT.
@@ -108,10 +126,10 @@ fn ended(m: &[u8], at: usize, envelopes: usize, rows: usize, most: usize) -> Swe
     Swept::Left
 }
 
-// Sweeps a whole message, an envelope a turn. The rows that are wanted are in the notes where it says `Good`.
-pub(crate) fn sweep(m: &[u8], w: Wanted, notes: &mut [u16]) -> Swept
+// Sweeps a whole message in an edition, an envelope a turn. The rows that are wanted are in the notes where it says `Good`.
+pub(crate) fn sweep(edition: Edition, m: &[u8], w: Wanted, notes: &mut [u16]) -> Swept
     requires { ⌜ w .most ≤ mostRows ⌝ }
-    ensures { λ r. ⌜ SweptSo (now (m .entry)) w (now (notes .exit)) r ⌝ }
+    ensures { λ r. ⌜ SweptSo edition (now (m .entry)) w (now (notes .exit)) r ⌝ }
 {
     if !framed(m) {
         return Swept::Left;
@@ -121,7 +139,7 @@ pub(crate) fn sweep(m: &[u8], w: Wanted, notes: &mut [u16]) -> Swept
     let mut envelopes = 0;
     let mut rows = 0;
     loop {
-        let p = sweep_envelope(m, w, at, rows, notes);
+        let p = sweep_envelope(edition, m, w, at, rows, notes);
         at = p.next;
         rows = p.rows;
         if at == 0 {

@@ -18,8 +18,7 @@ use walk::standing_at;
 ghost use mathlib.Core.Path.{_≡_};
 ghost use Prim.Native.Nat.{_≤_, _<_};
 ghost use lib.ListN.{length};
-ghost use Rattle.label.specs.Formats.{edition2005, ruleOf};
-ghost use Rattle.walk.specs.Shapes.{shapeOf};
+ghost use Rattle.label.specs.Formats.{widest, ruleOf};
 ghost use Rattle.walk.specs.Cursors.{plainRow, opening, afterSubElement};
 ghost use Rattle.sweeps.specs.Quick.{Framed, IfAny, BodySwept, FormatSwept, StandsAt};
 ghost use Rattle.sweeps.specs.Segments.{stageBehind, segmentsKind, TagTo, SegmentsDue, LaterSwept, SegmentSwept};
@@ -141,7 +140,7 @@ pub(crate) fn sweep_segments(
     rows: usize,
     notes: &mut [u16],
 ) -> Passed
-    requires { ⌜ ((3 ≤ f) × (f ≤ 4)) × StandsAt (now m) w at rows (now notes) (opening (now m) f at (shapeOf (ruleOf edition2005 f))) ⌝ }
+    requires { ⌜ ((3 ≤ f) × (f ≤ 4)) × StandsAt (now m) w at rows (now notes) (opening (now m) f at (ruleOf widest f)) ⌝ }
     ensures { λ r. ⌜ IfAny (r .next) (FormatSwept (now (m .entry)) (w .from) f at rows r (now (notes .exit))) ⌝ }
 {
     if m.len() - at < RELEASE_LENGTH + 4 {

@@ -7,14 +7,13 @@ use sweeps::Passed;
 use sweeps::Wanted;
 use walk::Stage;
 use walk::standing_at;
-ghost use Rattle.label.specs.Formats.{edition2005, ruleOf};
-ghost use Rattle.walk.specs.Shapes.{shapeOf};
+ghost use Rattle.label.specs.Formats.{widest, ruleOf};
 ghost use Rattle.walk.specs.Cursors.{opening};
 ghost use Rattle.sweeps.specs.Quick.{IfAny, FormatSwept, StandsAt};
 
 // 07: text up to an RS.
 pub(crate) fn sweep_text(m: &[u8], w: Wanted, at: usize, rows: usize, notes: &mut [u16]) -> Passed
-    requires { ⌜ StandsAt (now m) w at rows (now notes) (opening (now m) 7 at (shapeOf (ruleOf edition2005 7))) ⌝ }
+    requires { ⌜ StandsAt (now m) w at rows (now notes) (opening (now m) 7 at (ruleOf widest 7)) ⌝ }
     ensures { λ r. ⌜ IfAny (r .next) (FormatSwept (now (m .entry)) (w .from) 7 at rows r (now (notes .exit))) ⌝ }
 {
     if w.most <= rows {

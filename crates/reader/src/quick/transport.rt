@@ -20,9 +20,8 @@ ghost use mathlib.Core.Path.{_≡_};
 ghost use mathlib.Core.Bool.{true};
 ghost use Prim.Native.Nat.{_<_};
 ghost use lib.ListN.{length};
-ghost use Rattle.label.specs.Formats.{edition2005, ruleOf};
+ghost use Rattle.label.specs.Formats.{widest, ruleOf};
 ghost use Rattle.pieces.specs.PieceTests.{pieceTest};
-ghost use Rattle.walk.specs.Shapes.{shapeOf};
 ghost use Rattle.walk.specs.Cursors.{plainRow, opening};
 ghost use Rattle.sweeps.specs.Quick.{Framed, PassesTo, IfAny, IfSo, BodySwept, FormatSwept, StandsAt};
 ghost use Rattle.sweeps.specs.Transport.{FieldsOf, LastRight, fitsIn, sizeFits};
@@ -124,7 +123,7 @@ pub(crate) fn sweep_transport(
     rows: usize,
     notes: &mut [u16],
 ) -> Passed
-    requires { ⌜ StandsAt (now m) w at rows (now notes) (opening (now m) 1 at (shapeOf (ruleOf edition2005 1))) ⌝ }
+    requires { ⌜ StandsAt (now m) w at rows (now notes) (opening (now m) 1 at (ruleOf widest 1)) ⌝ }
     ensures { λ r. ⌜ IfAny (r .next) (FormatSwept (now (m .entry)) (w .from) 1 at rows r (now (notes .exit))) ⌝ }
 {
     if (at != FIRST) | (w.most <= rows) | (m.len() < SHORTEST) {

@@ -18,8 +18,8 @@ mul-result : tie.Need-mul-result
 mul-result c =
     let args = c .before .before .before .before .before .before .before .before .before .before .args in
     let read = c .before .before .before .before .before .before .read in
-    let long : length (read .last .1 .0) ≡ length (args .table .now) = omega arith in
-    let so = holds-accepted (args .message .now) (args .table .now) (read .last .1 .0) (c .before .before .before .before .before .before .before .before .before .before .pre) long (read .ensures .1) (c .before .before .reading .given .0 .0) (sym (ap answerOf (c .before .before .reading .given .1)) ∙ read .ensures .0) in
+    let long : length (read .last .1 .1 .0) ≡ length (args .table .now) = omega arith in
+    let so = holds-accepted (args .edition) (args .message .now) (args .table .now) (read .last .1 .1 .0) (c .before .before .before .before .before .before .before .before .before .before .pre) long (read .ensures .1) (c .before .before .reading .given .0 .0) (sym (ap answerOf (c .before .before .reading .given .1)) ∙ read .ensures .0) in
     omega (arith, so .inside)
 
 enum-told : tie.Need-enum-told
@@ -32,8 +32,8 @@ returns : tie.Need-returns
 returns c =
     let args = c .before .before .before .before .before .before .before .before .before .before .args in
     let read = c .before .before .before .before .before .before .read in
-    let long : length (read .last .1 .0) ≡ length (args .table .now) = omega arith in
-    holds-accepted (args .message .now) (args .table .now) (read .last .1 .0) (c .before .before .before .before .before .before .before .before .before .before .pre) long (read .ensures .1) (c .before .before .reading .given .0 .0) (sym (ap answerOf (c .before .before .reading .given .1)) ∙ read .ensures .0)
+    let long : length (read .last .1 .1 .0) ≡ length (args .table .now) = omega arith in
+    holds-accepted (args .edition) (args .message .now) (args .table .now) (read .last .1 .1 .0) (c .before .before .before .before .before .before .before .before .before .before .pre) long (read .ensures .1) (c .before .before .reading .given .0 .0) (sym (ap answerOf (c .before .before .reading .given .1)) ∙ read .ensures .0)
 
 same-length-2 : tie.Need-same-length-2
 same-length-2 c = search needs
@@ -42,8 +42,8 @@ returns-2 : tie.Need-returns-2
 returns-2 c =
     let args = c .before .before .before .before .before .before .before .before .args in
     let read = c .before .before .before .before .read in
-    let long : length (read .last .1 .0) ≡ length (args .table .now) = omega arith in
-    holds-refused (args .message .now) (args .table .now) (read .last .1 .0) (c .before .before .before .before .before .before .before .before .pre) long (read .ensures .1) (c .enum-told .given .0 .0) (sym (ap answerOf (c .enum-told .given .1)) ∙ read .ensures .0)
+    let long : length (read .last .1 .1 .0) ≡ length (args .table .now) = omega arith in
+    holds-refused (args .edition) (args .message .now) (args .table .now) (read .last .1 .1 .0) (c .before .before .before .before .before .before .before .before .pre) long (read .ensures .1) (c .enum-told .given .0 .0) (sym (ap answerOf (c .enum-told .given .1)) ∙ read .ensures .0)
 
 pub numbers-into-spec : {M : Type 1} → statement M
 numbers-into-spec =

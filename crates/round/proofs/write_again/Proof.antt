@@ -3,7 +3,6 @@ use mathlib.Core.Path.{_≡_, ap, _∙_}
 use native.Mathlib.Omega.{arith}
 use borrow.Author.Needs.{needs}
 use lib.ListN.{length, length-take}
-use Rattle.label.specs.Formats.{edition2005}
 use Rattle.label.specs.Writing.{writeAnswerOf, writeAnswer, outputAfter}
 use Rattle.label.specs.ReadMessage.{reading}
 use Rattle.label.specs.Answer.{numbersRead}
@@ -23,7 +22,7 @@ array-share-prefix-table c = search needs
 slice-aggregate-write : tie.Need-slice-aggregate-write
 slice-aggregate-write c =
     let into = c .before .before .numbers-into in
-    omega (arith, length-take (into .result) (into .last .1 .0), into .ensures .inside)
+    omega (arith, length-take (into .result) (into .last .1 .1 .0), into .ensures .inside)
 
 write-requires : tie.Need-write-requires
 write-requires c κs = search needs
@@ -38,9 +37,9 @@ returns c =
     let output = args .output .now in
     let numbers = c .before .before .before .before .before .before .numbers-into .ensures .numbers in
     let write = c .before .before .write in
-    let answer : writeAnswerOf (write .result) ≡ writeAnswer edition2005 m (numbersRead (reading edition2005 m)) (length output) = write .ensures .0 ∙ ap (λ ns. writeAnswer edition2005 m ns (length output)) numbers in
-    let bytes : write .last .1 .1 .0 ≡ outputAfter edition2005 m (numbersRead (reading edition2005 m)) output = write .ensures .1 ∙ ap (λ ns. outputAfter edition2005 m ns output) numbers in
-    (answer, (bytes, goes-round m output (write .last .1 .1 .0) (write .result) answer bytes))
+    let answer : writeAnswerOf (write .result) ≡ writeAnswer (args .edition) m (numbersRead (reading (args .edition) m)) (length output) = write .ensures .0 ∙ ap (λ ns. writeAnswer (args .edition) m ns (length output)) numbers in
+    let bytes : write .last .1 .1 .1 .0 ≡ outputAfter (args .edition) m (numbersRead (reading (args .edition) m)) output = write .ensures .1 ∙ ap (λ ns. outputAfter (args .edition) m ns output) numbers in
+    (answer, (bytes, goes-round (args .edition) m output (write .last .1 .1 .1 .0) (write .result) answer bytes))
 
 pub write-again-spec : {M : Type 1} → statement M
 write-again-spec =

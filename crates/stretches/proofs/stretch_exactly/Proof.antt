@@ -12,10 +12,14 @@ rows-of-requires : tie.Need-rows-of-requires
 rows-of-requires c κs = search needs
 
 cursor-at-requires : tie.Need-cursor-at-requires
-cursor-at-requires c κs = search needs
+cursor-at-requires c κs =
+    let args = c .before .before .before .args in
+    record { edition = args .edition; has = omega (arith, c .if1 .taken, c .before .rows-of .ensures) }
 
 returns : tie.Need-returns
-returns c = search needs
+returns c =
+    let args = c .before .before .before .before .args in
+    c .cursor-at .ensures (args .edition) (omega (arith, c .before .if1 .taken, c .before .before .rows-of .ensures))
 
 nowhere-requires : tie.Need-nowhere-requires
 nowhere-requires c κs = search needs
@@ -23,7 +27,7 @@ nowhere-requires c κs = search needs
 returns-2 : tie.Need-returns-2
 returns-2 c =
     let args = c .before .before .before .before .args in
-    subst (λ (s : Stretch). Lies (args .m .now) (args .row) (s .start) (s .length)) (sym (c .nowhere .ensures)) (lies-nowhere (args .m .now) (args .row) (omega arith))
+    subst (λ (s : Stretch). Lies (args .edition) (args .m .now) (args .row) (s .start) (s .length)) (sym (c .nowhere .ensures)) (lies-nowhere (args .edition) (args .m .now) (args .row) (omega arith))
 
 pub stretch-exactly-spec : {M : Type 1} → statement M
 stretch-exactly-spec = tie.close (tie.spec rows-of-requires cursor-at-requires returns nowhere-requires returns-2)

@@ -6,10 +6,10 @@ use Rattle.vectors.proofs.run_lines.Statement.{statement}
 use Rattle.vectors.proofs.run_lines.Tie as tie
 
 abbrev Inv-loop : tie.InvT-loop
-Inv-loop text trial from₀ from = from ≤ length text
+Inv-loop text trial edition from₀ from = from ≤ length text
 
 abbrev μ-loop : tie.MeasureT-loop
-μ-loop text trial from₀ from = length text - from
+μ-loop text trial edition from₀ from = length text - from
 
 loop-holds : tie.Need-loop-holds Inv-loop μ-loop
 loop-holds c = search needs

@@ -13,7 +13,7 @@ use Rattle.writer.proofs.compose.Tie as tie
 returns : tie.Need-returns
 returns c =
     let args = c .before .before .before .before .args in
-    composes-none (args .held .now) (args .rows .now) 0 (args .out .now) (composed-not-empty (args .held .now) (args .rows .now) (c .if1 .taken)) refl
+    composes-none (args .edition) (args .held .now) (args .rows .now) 0 (args .out .now) (composed-not-empty (args .edition) (args .held .now) (args .rows .now) (c .if1 .taken)) refl
 
 ordinals-counted-requires : tie.Need-ordinals-counted-requires
 ordinals-counted-requires c κs = search needs
@@ -22,8 +22,8 @@ returns-2 : tie.Need-returns-2
 returns-2 c =
     let args = c .before .before .before .before .before .before .args in
     let counted = c .before .ordinals-counted in
-    composes-none (args .held .now) (args .rows .now) 0 (args .out .now)
-    (composed-not-true (args .held .now) (args .rows .now) (sym (counted .ensures) ∙ not-true (counted .result) (c .if2 .taken))) refl
+    composes-none (args .edition) (args .held .now) (args .rows .now) 0 (args .out .now)
+    (composed-not-true (args .edition) (args .held .now) (args .rows .now) (sym (counted .ensures) ∙ not-true (counted .result) (c .if2 .taken))) refl
 
 lay-out-requires : tie.Need-lay-out-requires
 lay-out-requires c κs = search needs
@@ -36,8 +36,8 @@ returns-3 c =
     let args = c .before .before .before .before .before .before .before .before .before .before .before .args in
     let laid = c .before .before .before .lay-out in
     let long = laid .ensures .over (c .if3 .taken) in
-    composes-none (args .held .now) (args .rows .now) 0 (laid .last .1 .1 .0)
-    (composed-not-long (args .held .now) (args .rows .now) (omega (arith, long))) refl
+    composes-none (args .edition) (args .held .now) (args .rows .now) 0 (laid .last .1 .1 .0)
+    (composed-not-long (args .edition) (args .held .now) (args .rows .now) (omega (arith, long))) refl
 
 slice-reshare-prefix-same-rows : tie.Need-slice-reshare-prefix-same-rows
 slice-reshare-prefix-same-rows c = search needs
@@ -61,7 +61,7 @@ returns-4 c =
     let counted = c .before .before .before .before .before .before .before .before .before .ordinals-counted in
     let laid = c .before .before .before .before .before .before .lay-out in
     let same = c .before .same-rows in
-    composes-compared (args .held .now) (args .rows .now) (c .before .before .before .before .before .before .before .before .before .before .before .before .before .before .pre .stand) (sym (counted .ensures) ∙ not-false (counted .result) (c .before .before .before .before .before .before .before .before .if2 .left)) (omega (arith, c .before .before .before .before .before .before .before .before .before .before .if1 .left)) (laid .result) (laid .last .1 .1 .0) (laid .ensures) (c .before .before .before .if3 .left)
+    composes-compared (args .edition) (args .held .now) (args .rows .now) (c .before .before .before .before .before .before .before .before .before .before .before .before .before .before .pre .stand) (sym (counted .ensures) ∙ not-false (counted .result) (c .before .before .before .before .before .before .before .before .if2 .left)) (omega (arith, c .before .before .before .before .before .before .before .before .before .before .if1 .left)) (laid .result) (laid .last .1 .1 .0) (laid .ensures) (c .before .before .before .if3 .left)
     (same .result) (same .ensures) true (c .if4 .taken)
 
 same-length-3 : tie.Need-same-length-3
@@ -73,7 +73,7 @@ returns-5 c =
     let counted = c .before .before .before .before .before .before .before .before .before .ordinals-counted in
     let laid = c .before .before .before .before .before .before .lay-out in
     let same = c .before .same-rows in
-    composes-compared (args .held .now) (args .rows .now) (c .before .before .before .before .before .before .before .before .before .before .before .before .before .before .pre .stand) (sym (counted .ensures) ∙ not-false (counted .result) (c .before .before .before .before .before .before .before .before .if2 .left)) (omega (arith, c .before .before .before .before .before .before .before .before .before .before .if1 .left)) (laid .result) (laid .last .1 .1 .0) (laid .ensures) (c .before .before .before .if3 .left)
+    composes-compared (args .edition) (args .held .now) (args .rows .now) (c .before .before .before .before .before .before .before .before .before .before .before .before .before .before .pre .stand) (sym (counted .ensures) ∙ not-false (counted .result) (c .before .before .before .before .before .before .before .before .if2 .left)) (omega (arith, c .before .before .before .before .before .before .before .before .before .before .if1 .left)) (laid .result) (laid .last .1 .1 .0) (laid .ensures) (c .before .before .before .if3 .left)
     (same .result) (same .ensures) false (c .if4 .left)
 
 pub compose-spec : {M : Type 1} → statement M

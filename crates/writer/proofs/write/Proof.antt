@@ -16,7 +16,7 @@ returns c =
     let args = c .before .before .before .before .before .args in
     let held = args .held .now in
     let ns = args .rows .now in
-    let so = answers-bad-rows held ns (args .output .now) (sym (c .before .rows-stand .ensures) ∙ not-true (c .before .rows-stand .result) (c .if1 .taken)) in
+    let so = answers-bad-rows (args .edition) held ns (args .output .now) (sym (c .before .rows-stand .ensures) ∙ not-true (c .before .rows-stand .result) (c .if1 .taken)) in
     (so .answer, so .bytes)
 
 slice-aggregate-compose : tie.Need-slice-aggregate-compose
@@ -31,7 +31,7 @@ returns-2 c =
     let held = args .held .now in
     let ns = args .rows .now in
     let made = c .before .before .compose in
-    let so = answers-none held ns (args .output .now) (sym (c .before .before .before .before .before .rows-stand .ensures) ∙ not-false (c .before .before .before .before .before .rows-stand .result) (c .before .before .before .before .if1 .left)) (made .result) (made .last .1 .1 .0) (made .ensures) (c .if2 .taken) in
+    let so = answers-none (args .edition) held ns (args .output .now) (sym (c .before .before .before .before .before .rows-stand .ensures) ∙ not-false (c .before .before .before .before .before .rows-stand .result) (c .before .before .before .before .if1 .left)) (made .result) (made .last .1 .1 .1 .0) (made .ensures) (c .if2 .taken) in
     (so .answer, so .bytes)
 
 returns-3 : tie.Need-returns-3
@@ -40,7 +40,7 @@ returns-3 c =
     let held = args .held .now in
     let ns = args .rows .now in
     let made = c .before .before .before .compose in
-    let so = answers-no-room held ns (args .output .now) (sym (c .before .before .before .before .before .before .rows-stand .ensures) ∙ not-false (c .before .before .before .before .before .before .rows-stand .result) (c .before .before .before .before .before .if1 .left)) (made .result) (made .last .1 .1 .0) (made .ensures) (c .before .if2 .left) (c .if3 .taken) in
+    let so = answers-no-room (args .edition) held ns (args .output .now) (sym (c .before .before .before .before .before .before .rows-stand .ensures) ∙ not-false (c .before .before .before .before .before .before .rows-stand .result) (c .before .before .before .before .before .if1 .left)) (made .result) (made .last .1 .1 .1 .0) (made .ensures) (c .before .if2 .left) (c .if3 .taken) in
     (so .answer, so .bytes)
 
 array-share-prefix-candidate : tie.Need-array-share-prefix-candidate
@@ -49,7 +49,7 @@ array-share-prefix-candidate c =
     let held = args .held .now in
     let ns = args .rows .now in
     let made = c .before .before .before .compose in
-    composes-inside held ns (made .result) (made .last .1 .1 .0) (made .ensures)
+    composes-inside (args .edition) held ns (made .result) (made .last .1 .1 .1 .0) (made .ensures)
 
 slice-aggregate-copy : tie.Need-slice-aggregate-copy
 slice-aggregate-copy c =
@@ -57,12 +57,12 @@ slice-aggregate-copy c =
     let held = args .held .now in
     let ns = args .rows .now in
     let made = c .before .before .before .before .compose in
-    omega (arith, length-take (made .result) (made .last .1 .1 .0), composes-inside held ns (made .result) (made .last .1 .1 .0) (made .ensures))
+    omega (arith, length-take (made .result) (made .last .1 .1 .1 .0), composes-inside (args .edition) held ns (made .result) (made .last .1 .1 .1 .0) (made .ensures))
 
 copy-requires : tie.Need-copy-requires
 copy-requires c κs =
     let made = c .before .before .before .before .before .compose in
-    omega (arith, length-take (made .result) (made .last .1 .1 .0), c .before .before .if3 .left)
+    omega (arith, length-take (made .result) (made .last .1 .1 .1 .0), c .before .before .if3 .left)
 
 same-length : tie.Need-same-length
 same-length c = search needs
@@ -74,7 +74,7 @@ returns-4 c =
     let ns = args .rows .now in
     let made = c .before .before .before .before .before .before .before .before .compose in
     let copy = c .before .before .copy in
-    let so = answers-written held ns (args .output .now) (sym (c .before .before .before .before .before .before .before .before .before .before .before .rows-stand .ensures) ∙ not-false (c .before .before .before .before .before .before .before .before .before .before .before .rows-stand .result) (c .before .before .before .before .before .before .before .before .before .before .if1 .left)) (made .result) (made .last .1 .1 .0) (made .ensures)
+    let so = answers-written (args .edition) held ns (args .output .now) (sym (c .before .before .before .before .before .before .before .before .before .before .before .rows-stand .ensures) ∙ not-false (c .before .before .before .before .before .before .before .before .before .before .before .rows-stand .result) (c .before .before .before .before .before .before .before .before .before .before .if1 .left)) (made .result) (made .last .1 .1 .1 .0) (made .ensures)
     (c .before .before .before .before .before .before .if2 .left) (c .before .before .before .before .before .if3 .left) (copy .result) (copy .last .1 .0) (copy .ensures .0) (copy .ensures .1) in
     (so .answer, so .bytes)
 

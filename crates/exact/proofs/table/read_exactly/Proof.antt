@@ -1,5 +1,6 @@
 -- `read_exactly` answers and fills as the definitions say: the judgement of the whole message decides before a number is written.
 use mathlib.Core.Path.{sym, _∙_}
+use Rattle.judge.proofs.Judged.{rows-judged}
 use Rattle.exact.proofs.ReadLaws.{room-for, lacks-room, has-room, is-refused}
 use borrow.Author.Needs.{needs}
 use Rattle.exact.proofs.table.read_exactly.Statement.{statement}
@@ -13,11 +14,11 @@ enum-known-judged c = search needs
 
 returns : tie.Need-returns
 returns c =
-    let so = lacks-room (c .before .before .before .before .before .before .before .args .message .now) (c .before .before .before .before .before .before .before .args .table .now) (c .before .before .judged .given .0 .0) (sym (c .before .before .before .before .judge .ensures) ∙ c .before .before .judged .given .1) (c .if1 .taken) in
+    let so = lacks-room (c .before .before .before .before .before .before .before .args .edition) (c .before .before .before .before .before .before .before .args .message .now) (c .before .before .before .before .before .before .before .args .table .now) (c .before .before .judged .given .0 .0) (sym (c .before .before .before .before .judge .ensures) ∙ c .before .before .judged .given .1) (c .if1 .taken) in
     (so .answered-so, so .filled-so)
 
 fill-requires : tie.Need-fill-requires
-fill-requires c κs = room-for (c .before .before .before .before .before .before .before .before .args .message .now) (c .before .before .before .before .before .before .before .before .args .table .now) (c .before .before .before .judged .given .0 .0) (sym (c .before .before .before .before .before .judge .ensures) ∙ c .before .before .before .judged .given .1) (c .before .if1 .left)
+fill-requires c κs = room-for (c .before .before .before .before .before .before .before .before .args .edition) (c .before .before .before .before .before .before .before .before .args .message .now) (c .before .before .before .before .before .before .before .before .args .table .now) (c .before .before .before .judged .given .0 .0) (sym (c .before .before .before .before .before .judge .ensures) ∙ c .before .before .before .judged .given .1) (c .before .if1 .left)
 
 enum-known-judged-2 : tie.Need-enum-known-judged-2
 enum-known-judged-2 c = search needs
@@ -27,12 +28,15 @@ same-length c = search needs
 
 returns-2 : tie.Need-returns-2
 returns-2 c =
-    let so = has-room (c .before .before .before .before .before .before .before .before .before .before .before .args .message .now) (c .before .before .before .before .before .before .before .before .before .before .before .args .table .now) (c .before .before .before .before .before .before .judged .given .0 .0) (sym (c .before .before .before .before .before .before .before .before .judge .ensures) ∙ c .before .before .before .before .before .before .judged .given .1) (c .before .before .before .before .if1 .left) in
-    (so .answered-so, c .before .before .fill .ensures ∙ so .filled-so)
+    let args = c .before .before .before .before .before .before .before .before .before .before .before .args in
+    let given = c .before .before .before .before .before .before .judged .given in
+    let says = sym (c .before .before .before .before .before .before .before .before .judge .ensures) ∙ given .1 in
+    let so = has-room (args .edition) (args .message .now) (args .table .now) (given .0 .0) says (c .before .before .before .before .if1 .left) in
+    (so .answered-so, c .before .before .fill .ensures (args .edition) (rows-judged (args .edition) (args .message .now) (given .0 .0) says) ∙ so .filled-so)
 
 returns-3 : tie.Need-returns-3
 returns-3 c =
-    let so = is-refused (c .before .before .before .before .before .before .args .message .now) (c .before .before .before .before .before .before .args .table .now) (c .before .judged2 .given .0 .0) (sym (c .before .before .before .judge .ensures) ∙ c .before .judged2 .given .1) in
+    let so = is-refused (c .before .before .before .before .before .before .args .edition) (c .before .before .before .before .before .before .args .message .now) (c .before .before .before .before .before .before .args .table .now) (c .before .judged2 .given .0 .0) (sym (c .before .before .before .judge .ensures) ∙ c .before .judged2 .given .1) in
     (so .answered-so, so .filled-so)
 
 pub read-exactly-spec : {M : Type 1} → statement M

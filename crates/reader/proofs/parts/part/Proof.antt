@@ -4,7 +4,6 @@ use mathlib.Core.Path.{_≡_, refl, ap}
 use native.Mathlib.Omega.{arith}
 use borrow.Author.Needs.{needs}
 use lib.ListN.{take, drop}
-use Rattle.label.specs.Formats.{edition2005}
 use Rattle.label.specs.Part.{partOf}
 use Rattle.reader.proofs.parts.part.Statement.{statement}
 use Rattle.reader.proofs.parts.part.Tie as tie
@@ -29,7 +28,7 @@ returns c =
     let m = c .before .before .before .before .args .message in
     let s = c .before .before .stretch-of .result in
     let lies = c .before .before .stretch-of .ensures in
-    let measures : s .start + s .length - s .start ≡ partOf edition2005 (m .now) (c .before .before .before .before .args .row) .length = omega (arith, lies .measures) in
+    let measures : s .start + s .length - s .start ≡ partOf (c .before .before .before .before .args .edition) (m .now) (c .before .before .before .before .args .row) .length = omega (arith, lies .measures) in
     ((λ j. take (measures j) (drop (lies .from j) (m .now))), (refl, ap (λ start. start + m .ptr .1) (lies .from)))
 
 pub part-spec : {M : Type 1} → statement M

@@ -28,8 +28,8 @@ returns c =
     let args = c .before .before .before .before .before .before .before .before .before .args in
     let sweep = c .before .before .before .before .before .before .sweep in
     let given = c .before .before .before .swept .given in
-    let kept = one-kept (args .m .now) (args .row) 1024 (sweep .last .1 .1 .0) (sweep .result) (given .0 .0) (given .1) (sweep .ensures) (omega arith) in
-    subst (λ (s : Stretch). Lies (args .m .now) (args .row) (s .start) (s .length)) (sym (c .stretch-noted .ensures)) (lies-as-noted (args .m .now) (args .row) (given .0 .0 .rows) (sweep .last .1 .1 .0) kept)
+    let kept = one-kept (args .edition) (args .m .now) (args .row) 1024 (sweep .last .1 .1 .1 .0) (sweep .result) (given .0 .0) (given .1) (sweep .ensures) (omega arith) in
+    subst (λ (s : Stretch). Lies (args .edition) (args .m .now) (args .row) (s .start) (s .length)) (sym (c .stretch-noted .ensures)) (lies-as-noted (args .edition) (args .m .now) (args .row) (given .0 .0 .rows) (sweep .last .1 .1 .1 .0) kept)
 
 returns-2 : tie.Need-returns-2
 returns-2 c = search needs

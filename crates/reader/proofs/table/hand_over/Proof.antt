@@ -25,7 +25,7 @@ same-length c = search needs
 returns : tie.Need-returns
 returns c =
     let args = c .before .before .before .before .before .before .before .before .before .args in
-    let so = handed-so (args .message .now) (args .found) (args .notes .now) (args .table .now) (c .before .before .before .before .before .before .before .before .before .pre) in
+    let so = handed-so (args .edition) (args .message .now) (args .found) (args .notes .now) (args .table .now) (c .before .before .before .before .before .before .before .before .before .pre) in
     (c .before .before .hand-over .ensures .0 ∙ so .answered-so, c .before .before .hand-over .ensures .1 ∙ so .filled-so)
 
 pub hand-over-spec : {M : Type 1} → statement M

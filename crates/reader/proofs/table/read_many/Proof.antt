@@ -22,7 +22,7 @@ hand-over-requires c κs =
     let args = c .before .before .before .before .before .before .before .before .before .before .args in
     let sweep = c .before .before .before .before .before .before .sweep in
     let given = c .before .before .before .swept .given in
-    handed (args .message .now) 1024 (sweep .last .1 .1 .0) (sweep .result) (given .0 .0) (given .1) (sweep .ensures) (omega arith)
+    handed (args .edition) (args .message .now) 1024 (sweep .last .1 .1 .1 .0) (sweep .result) (given .0 .0) (given .1) (sweep .ensures) (omega arith)
 
 read-exactly-requires : tie.Need-read-exactly-requires
 read-exactly-requires c κs = search needs

@@ -6,7 +6,7 @@ use borrow.Author.Needs.{needs}
 use borrow.Author.Tests.{eq-eqb, ne-eqb}
 use lib.ListN.{getD}
 use Rattle.label.specs.Limits.{rowWidth}
-use Rattle.label.specs.Formats.{edition2005, ruleOf}
+use Rattle.label.specs.Formats.{widest, ruleOf}
 use Rattle.label.specs.Message.{header}
 use Rattle.label.specs.Rendered.{marksBetween}
 use Rattle.writer.proofs.laying.marks_before.Statement.{statement}
@@ -19,7 +19,7 @@ returns : tie.Need-returns
 returns c =
     let i = c .before .before .before .args .i in
     let ns = c .before .before .before .args .rows .now in
-    let later = marksBetween (ruleOf edition2005 (getD ns (i + 1) 0)) (getD ns (i - rowWidth) 0) (getD ns i 0) in
+    let later = marksBetween (ruleOf widest (getD ns (i + 1) 0)) (getD ns (i - rowWidth) 0) (getD ns i 0) in
     (c .heading .ensures .0, c .heading .ensures .1 ∙ sym (ap (λ t. cond t header later) (eq-eqb i 0 (c .before .if1 .taken))))
 
 add-between : tie.Need-add-between
@@ -53,7 +53,7 @@ returns-2 : tie.Need-returns-2
 returns-2 c =
     let i = c .before .before .before .before .before .before .args .i in
     let ns = c .before .before .before .before .before .before .args .rows .now in
-    let later = marksBetween (ruleOf edition2005 (getD ns (i + 1) 0)) (getD ns (i - rowWidth) 0) (getD ns i 0) in
+    let later = marksBetween (ruleOf widest (getD ns (i + 1) 0)) (getD ns (i - rowWidth) 0) (getD ns i 0) in
     (c .between .ensures .0, c .between .ensures .1 ∙ sym (ap (λ t. cond t header later) (ne-eqb i 0 (c .before .before .before .before .if1 .left))))
 
 pub marks-before-spec : {M : Type 1} → statement M

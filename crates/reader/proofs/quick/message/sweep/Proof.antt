@@ -10,10 +10,10 @@ use Rattle.reader.proofs.quick.message.sweep.Statement.{statement}
 use Rattle.reader.proofs.quick.message.sweep.Tie as tie
 
 abbrev Inv-loop : tie.InvT-loop
-Inv-loop m w notes₀ most at₀ envelopes₀ rows₀ notes at envelopes rows = (length notes ≡ length notes₀) × Going m (w .from) notes at envelopes rows
+Inv-loop edition m w notes₀ most at₀ envelopes₀ rows₀ notes at envelopes rows = (length notes ≡ length notes₀) × Going edition m (w .from) notes at envelopes rows
 
 abbrev μ-loop : tie.MeasureT-loop
-μ-loop m w notes₀ most at₀ envelopes₀ rows₀ notes at envelopes rows = length m - at
+μ-loop edition m w notes₀ most at₀ envelopes₀ rows₀ notes at envelopes rows = length m - at
 
 framed-requires : tie.Need-framed-requires Inv-loop μ-loop
 framed-requires c κs = search needs
@@ -24,7 +24,7 @@ returns c = tt
 loop-holds : tie.Need-loop-holds Inv-loop μ-loop
 loop-holds c =
     let args = c .before .before .before .before .args in
-    (refl, going-first (args .m .now) (args .w .from) (args .notes .now) (c .before .framed .ensures (not-false _ (c .if1 .left))))
+    (refl, going-first (args .edition) (args .m .now) (args .w .from) (args .notes .now) (c .before .framed .ensures (not-false _ (c .if1 .left))))
 
 sweep-envelope-requires : tie.Need-sweep-envelope-requires Inv-loop μ-loop
 sweep-envelope-requires c κs =
@@ -38,7 +38,7 @@ same-length : tie.Need-same-length Inv-loop μ-loop
 same-length c = search needs
 
 returns-2 : tie.Need-returns-2 Inv-loop μ-loop
-returns-2 c = nothing-said (c .before .before .before .before .before .before .before .before .before .before .before .args .m .now) (c .before .before .before .before .before .before .before .before .before .before .before .args .w) (c .before .before .before .before .sweep-envelope .last .1 .1 .1 .1 .0) (c .not-swept .result) (c .not-swept .ensures)
+returns-2 c = nothing-said (c .before .before .before .before .before .before .before .before .before .before .before .args .edition) (c .before .before .before .before .before .before .before .before .before .before .before .args .m .now) (c .before .before .before .before .before .before .before .before .before .before .before .args .w) (c .before .before .before .before .sweep-envelope .last .1 .1 .1 .1 .1 .0) (c .not-swept .result) (c .not-swept .ensures)
 
 add-envelopes : tie.Need-add-envelopes Inv-loop μ-loop
 add-envelopes c = search needs
@@ -58,7 +58,7 @@ returns-3 c =
     let at = c .before .before .before .before .before .before .before .before .loop in
     let envelope = c .before .before .before .before .before .before .sweep-envelope in
     let swept = envelope .ensures (omega (arith, c .before .before .before .if2 .left)) in
-    ended-so (args .m .now) (args .w .from) (at .notes) (at .at) (at .envelopes) (at .rows) (at .inv .1) (envelope .result) (envelope .last .1 .1 .1 .1 .0) swept (c .before .if3 .taken) (args .w .most) (c .before .before .before .before .before .before .before .before .before .before .before .before .before .pre) (c .ended .result) (c .ended .ensures)
+    ended-so (args .edition) (args .m .now) (args .w .from) (at .notes) (at .at) (at .envelopes) (at .rows) (at .inv .1) (envelope .result) (envelope .last .1 .1 .1 .1 .1 .0) swept (c .before .if3 .taken) (args .w .most) (c .before .before .before .before .before .before .before .before .before .before .before .before .before .pre) (c .ended .result) (c .ended .ensures)
 
 loop-less : tie.Need-loop-less Inv-loop μ-loop
 loop-less c =
@@ -66,7 +66,7 @@ loop-less c =
     let at = c .before .before .before .before .before .before .before .loop in
     let envelope = c .before .before .before .before .before .sweep-envelope in
     let swept = envelope .ensures (omega (arith, c .before .before .if2 .left)) in
-    let later = further-on (args .m .now) (args .w .from) (at .notes) (at .at) (at .envelopes) (at .rows) (at .inv .1) (envelope .result) (envelope .last .1 .1 .1 .1 .0) swept (c .if3 .left) in
+    let later = further-on (args .edition) (args .m .now) (args .w .from) (at .notes) (at .at) (at .envelopes) (at .rows) (at .inv .1) (envelope .result) (envelope .last .1 .1 .1 .1 .1 .0) swept (c .if3 .left) in
     let inside = swept .inside in
     search needs
 
@@ -76,7 +76,7 @@ loop-again c =
     let at = c .before .before .before .before .before .before .before .loop in
     let envelope = c .before .before .before .before .before .sweep-envelope in
     let swept = envelope .ensures (omega (arith, c .before .before .if2 .left)) in
-    (search needs, going-on (args .m .now) (args .w .from) (at .notes) (at .at) (at .envelopes) (at .rows) (at .inv .1) (envelope .result) (envelope .last .1 .1 .1 .1 .0) swept (c .if3 .left))
+    (search needs, going-on (args .edition) (args .m .now) (args .w .from) (at .notes) (at .at) (at .envelopes) (at .rows) (at .inv .1) (envelope .result) (envelope .last .1 .1 .1 .1 .1 .0) swept (c .if3 .left))
 
 pub sweep-spec : {M : Type 1} → statement M
 sweep-spec =

@@ -91,7 +91,7 @@ returns-4 c =
     let long = c .before .before .before .before .before .before .before .before .before .before .before .before .before .before .if1 .left in
     let digits = c .before .before .before .before .before .before .before .before .before .if3 .left in
     let format = c .before .before .sweep-format in
-    λ some. envelope-swept (args .m .now) (pre .framed) (args .w .from) (args .at) (args .rows) long digits (format .result) (format .last .1 .1 .1 .1 .1 .0) (format .ensures some)
+    λ some. envelope-swept (args .m .now) (pre .framed) (args .w .from) (args .at) (args .rows) long digits (args .edition) (format .result) (format .last .1 .1 .1 .1 .1 .1 .0) (format .ensures some)
 
 pub sweep-envelope-spec : {M : Type 1} → statement M
 sweep-envelope-spec =

@@ -1,8 +1,9 @@
--- `shape_of` goes by the list of formats: a number in it has its rule's shape, any other is unknown.
+-- `shape_in` goes by the list of formats: a number of 2005's has its rule, any other what its edition adds.
+use mathlib.Core.Path.{sym, _∙_}
 use Rattle.label.specs.Formats.{ruleOf}
-use Rattle.label.proofs.Digits.{other-format}
-use Rattle.walk.proofs.shape_of.Statement.{statement}
-use Rattle.walk.proofs.shape_of.Tie as tie
+use Rattle.formats.proofs.Table.{only-added, none-added}
+use Rattle.formats.proofs.shape_in.Statement.{statement}
+use Rattle.formats.proofs.shape_in.Tie as tie
 
 returns : tie.Need-returns
 unfolding ruleOf
@@ -37,10 +38,12 @@ unfolding ruleOf
 returns-8 c = rw (c .match .keys8)
 
 returns-9 : tie.Need-returns-9
-returns-9 c = rw (other-format (c .before .args .format) (c .match .rest))
+returns-9 c =
+    let args = c .before .args in
+    sym (only-added (args .edition) (args .format) (c .match .rest) ∙ none-added (args .edition) (args .format))
 
-pub shape-of-spec : {M : Type 1} → statement M
-shape-of-spec =
+pub shape-in-spec : {M : Type 1} → statement M
+shape-in-spec =
     tie.close
     (tie.spec
     returns
