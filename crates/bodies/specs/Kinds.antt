@@ -7,14 +7,14 @@ use lib.Dec.{leb, ltb, eqb}
 use Rattle.label.specs.Bytes.{Bytes, FS, GS, US, every}
 use Rattle.label.specs.Pieces.{pieces, lastIsEmpty}
 use Rattle.label.specs.Values.{version02, version96}
-use Rattle.label.specs.Elements.{element05, element06}
+use Rattle.label.specs.Elements.{element05, element06, element12}
 use Rattle.label.specs.Segments.{tag, tag03}
 use Rattle.label.specs.Fields.{leastFields, transport}
 use Rattle.label.specs.Formats.{textByte}
 use Rattle.label.specs.ReadEnvelope.{plainOrGS, segmentByte, areSegments}
 use Rattle.leaves.specs.Seek.{tallyOf}
 use Rattle.pieces.specs.declared.Kind.{Kind}
-use Rattle.pieces.specs.declared.Kind.the-variants.{Fields02, Fields96, Segments03, Segments04, Elements05, Elements06, Text}
+use Rattle.pieces.specs.declared.Kind.the-variants.{Fields02, Fields96, Segments03, Segments04, Elements05, Elements06, Text, Elements12}
 
 abbrev pub permittedOf : Kind → ℕ → Bool
 permittedOf Fields02 = plainOrGS
@@ -24,6 +24,7 @@ permittedOf Segments04 = segmentByte
 permittedOf Elements05 = plainOrGS
 permittedOf Elements06 = plainOrGS
 permittedOf Text = textByte
+permittedOf Elements12 = plainOrGS
 
 abbrev pub rulesOf : Kind → Bytes → Bool
 rulesOf Fields02 body = transport version02 (pieces GS body)
@@ -33,6 +34,7 @@ rulesOf Segments04 body = areSegments tag body
 rulesOf Elements05 body = every element05 (pieces GS body)
 rulesOf Elements06 body = every element06 (pieces GS body)
 rulesOf Text body = true
+rulesOf Elements12 body = every element12 (pieces GS body)
 
 -- how many rows a body has: one for each piece, or for the whole
 abbrev pub rowsOfBody : Kind → Bytes → ℕ
@@ -43,6 +45,7 @@ rowsOfBody Segments04 body = tallyOf FS body + tallyOf GS body + tallyOf US body
 rowsOfBody Elements05 body = tallyOf GS body + 1
 rowsOfBody Elements06 body = tallyOf GS body + 1
 rowsOfBody Text body = 1
+rowsOfBody Elements12 body = tallyOf GS body + 1
 
 -- at which byte a body is cut into pieces
 abbrev pub separatorOf : Kind → ℕ
@@ -53,6 +56,7 @@ separatorOf Segments04 = FS
 separatorOf Elements05 = GS
 separatorOf Elements06 = GS
 separatorOf Text = GS
+separatorOf Elements12 = GS
 
 -- a test of each piece and its index, from an index on
 abbrev pub everyFrom : (ℕ → Bytes → Bool) → ℕ → List Bytes → Bool

@@ -29,6 +29,7 @@ pub fn permitted(k: Kind) -> Class
         Kind::Elements05 => Class::PlainOrGs,
         Kind::Elements06 => Class::PlainOrGs,
         Kind::Text => Class::TextByte,
+        Kind::Elements12 => Class::PlainOrGs,
     }
 }
 
@@ -44,6 +45,7 @@ fn separator(k: Kind) -> u8
         Kind::Elements05 => GS,
         Kind::Elements06 => GS,
         Kind::Text => GS,
+        Kind::Elements12 => GS,
     }
 }
 
@@ -111,6 +113,7 @@ pub fn rules_hold(k: Kind, body: &[u8]) -> bool
         Kind::Elements05 => pieces_hold(k, body),
         Kind::Elements06 => pieces_hold(k, body),
         Kind::Text => true,
+        Kind::Elements12 => pieces_hold(k, body),
     }
 }
 
@@ -143,5 +146,6 @@ pub fn rows_in(k: Kind, body: &[u8]) -> usize
         Kind::Elements05 => piece_rows(body),
         Kind::Elements06 => piece_rows(body),
         Kind::Text => 1,
+        Kind::Elements12 => piece_rows(body),
     }
 }

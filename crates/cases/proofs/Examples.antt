@@ -1,12 +1,13 @@
 -- A good message of each format, each version and each position, so that no rule is one that nothing keeps (01, Envelope rules). Every list is written out
--- by hand, and good by computation.
+-- by hand, and good by computation; in either edition, those of 12 and 15 in that of 2025 (02, No. 3).
 use mathlib.Core.Path.{refl}
 use mathlib.Core.List.{List, [], _∷_}
 use Rattle.label.specs.declared.Edition.{Edition}
+use Rattle.label.specs.declared.Edition.the-variants.{Edition2025}
 use Rattle.label.specs.Bytes.{ascii, EOT, GS, RS}
-use Rattle.label.specs.Values.{version02, version96}
+use Rattle.label.specs.Values.{version02, version96, typeLength, compressionLength}
 use Rattle.label.specs.Segments.{Segment, tag, tag03}
-use Rattle.label.specs.Elements.{element05, element06}
+use Rattle.label.specs.Elements.{element05, element06, element12}
 use Rattle.label.specs.Formats.{restByte, textByte}
 use Rattle.label.specs.Envelope.{Envelope, fields, wholeRest, segments, elements, text, counted, Within}
 use Rattle.label.specs.Message.{message, Each, Good}
@@ -64,10 +65,10 @@ noText = text 7 []
 
 -- 09: a payload of control bytes, its count with leading zeros; and none
 abbrev payload : Envelope
-payload = counted 9 (ascii "JPEG") (ascii "ZIP") (ascii "003") (RS ∷ EOT ∷ GS ∷ [])
+payload = counted 9 (ascii "JPEG" ∷ ascii "ZIP" ∷ []) (ascii "003") (RS ∷ EOT ∷ GS ∷ [])
 
 abbrev noPayload : Envelope
-noPayload = counted 9 (ascii "A") [] (ascii "0") []
+noPayload = counted 9 (ascii "A" ∷ [] ∷ []) (ascii "0") []
 
 -- alone; and in every place but 01 not first and 02 with others: first, between and last
 abbrev pub examples : List (List Envelope)
@@ -136,11 +137,11 @@ no-text-within edition = record { permitted = textByte; known = refl; permittedB
 
 payload-within : (edition : Edition) → Within edition payload
 unfolding all-definitions
-payload-within edition = record { known = refl; isType = refl; isCompression = refl; isCount = refl; counts = refl }
+payload-within edition = record { limits = typeLength ∷ compressionLength ∷ []; known = refl; areValues = refl; isCount = refl; counts = refl }
 
 no-payload-within : (edition : Edition) → Within edition noPayload
 unfolding all-definitions
-no-payload-within edition = record { known = refl; isType = refl; isCompression = refl; isCount = refl; counts = refl }
+no-payload-within edition = record { limits = typeLength ∷ compressionLength ∷ []; known = refl; areValues = refl; isCount = refl; counts = refl }
 
 pub the-examples-are-good : (edition : Edition) → Each (λ es. Good edition (message es) es) examples
 unfolding all-definitions
@@ -160,4 +161,55 @@ the-examples-are-good edition =
     and good edition _ _ (no-payload-within edition and tt) refl refl refl tt tt refl
     and good edition _ _ (most-transport-02-within edition and segments-03-within edition and segments-04-within edition and elements-05-within edition and elements-06-within edition and no-text-within edition and payload-within edition and tt) refl refl refl tt tt refl
     and good edition _ _ (most-transport-96-within edition and payload-within edition and some-text-within edition and elements-06-within edition and elements-05-within edition and segments-04-within edition and segments-03-within edition and tt) refl refl refl tt tt refl
+    and tt
+
+-- The edition of 2025
+
+-- 12: three digits and three capitals, and a space for the least value
+abbrev elements12 : Envelope
+elements12 = elements 12 (ascii "PNR 123" ∷ ascii "001  " ∷ [])
+
+-- 15: a payload of control bytes and one above 7F, its count with as many digits as it may have; and none
+abbrev signed : Envelope
+signed = counted 15 [] (ascii "000000000000004") (RS ∷ EOT ∷ GS ∷ 0x80 ∷ [])
+
+abbrev nothingSigned : Envelope
+nothingSigned = counted 15 [] (ascii "0") []
+
+-- alone, twice, first, between and last
+abbrev pub examples2025 : List (List Envelope)
+examples2025 =
+    (elements12 ∷ [])
+    ∷ (signed ∷ [])
+    ∷ (nothingSigned ∷ [])
+    ∷ (elements12 ∷ elements12 ∷ [])
+    ∷ (signed ∷ signed ∷ [])
+    ∷ (elements12 ∷ elements06 ∷ signed ∷ [])
+    ∷ (signed ∷ payload ∷ elements12 ∷ [])
+    ∷ (mostTransport02 ∷ signed ∷ elements12 ∷ elements06 ∷ [])
+    ∷ []
+
+elements-12-within : Within Edition2025 elements12
+unfolding all-definitions
+elements-12-within = record { isElement = element12; known = refl; oneOrMore = refl; plainBytes = refl; asStated = refl }
+
+signed-within : Within Edition2025 signed
+unfolding all-definitions
+signed-within = record { limits = []; known = refl; areValues = refl; isCount = refl; counts = refl }
+
+nothing-signed-within : Within Edition2025 nothingSigned
+unfolding all-definitions
+nothing-signed-within = record { limits = []; known = refl; areValues = refl; isCount = refl; counts = refl }
+
+pub the-examples-of-2025-are-good : Each (λ es. Good Edition2025 (message es) es) examples2025
+unfolding all-definitions
+the-examples-of-2025-are-good =
+    good Edition2025 _ _ (elements-12-within and tt) refl refl refl tt tt refl
+    and good Edition2025 _ _ (signed-within and tt) refl refl refl tt tt refl
+    and good Edition2025 _ _ (nothing-signed-within and tt) refl refl refl tt tt refl
+    and good Edition2025 _ _ (elements-12-within and elements-12-within and tt) refl refl refl tt tt refl
+    and good Edition2025 _ _ (signed-within and signed-within and tt) refl refl refl tt tt refl
+    and good Edition2025 _ _ (elements-12-within and elements-06-within Edition2025 and signed-within and tt) refl refl refl tt tt refl
+    and good Edition2025 _ _ (signed-within and payload-within Edition2025 and elements-12-within and tt) refl refl refl tt tt refl
+    and good Edition2025 _ _ (most-transport-02-within Edition2025 and signed-within and elements-12-within and elements-06-within Edition2025 and tt) refl refl refl tt tt refl
     and tt

@@ -6,3 +6,4 @@ pub mod Weights
 pub mod Examples
 pub mod WriterAndPart
 pub mod Ordinals
+pub mod Added

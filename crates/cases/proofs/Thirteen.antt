@@ -12,6 +12,7 @@ use Rattle.label.specs.Formats.{restByte, textByte}
 use Rattle.label.specs.Envelope.{Envelope, wholeRest, segments, elements, text, counted}
 use Rattle.label.specs.Message.{rowsOf, ordinalsOf, Each, Good}
 use Rattle.label.specs.Answer.{eachNumbers}
+use Rattle.label.specs.Values.{typeLength, compressionLength}
 use Rattle.label.proofs.AllDefinitions.{all-definitions}
 use Rattle.cases.proofs.Cases.{Case, Stand, _and_, good}
 
@@ -102,7 +103,7 @@ abbrev acceptedCases : List Example
 acceptedCases =
     record { case = carton; envelopes = elements 6 (ascii "1P7" ∷ ascii "Q3" ∷ []) ∷ [] }
     ∷ record { case = emptyText; envelopes = text 7 [] ∷ [] }
-    ∷ record { case = payload; envelopes = counted 9 (ascii "A") [] (ascii "3") (RS ∷ EOT ∷ GS ∷ []) ∷ [] }
+    ∷ record { case = payload; envelopes = counted 9 (ascii "A" ∷ [] ∷ []) (ascii "3") (RS ∷ EOT ∷ GS ∷ []) ∷ [] }
     ∷ record { case = oneSegment; envelopes = segments 3 (ascii "004010") (((ascii "N1" ∷ []) ∷ (ascii "A" ∷ ascii "B" ∷ []) ∷ []) ∷ []) ∷ [] }
     ∷ record { case = allTheRest; envelopes = wholeRest 2 (ascii "X") ∷ [] }
     ∷ []
@@ -112,7 +113,7 @@ unfolding all-definitions
 the-accepted-are-written edition =
     (good edition _ _ (record { isElement = element06; known = refl; oneOrMore = refl; plainBytes = refl; asStated = refl } and tt) refl refl refl tt tt refl and refl)
     and (good edition _ _ (record { permitted = textByte; known = refl; permittedBytes = refl } and tt) refl refl refl tt tt refl and refl)
-    and (good edition _ _ (record { known = refl; isType = refl; isCompression = refl; isCount = refl; counts = refl } and tt) refl refl refl tt tt refl and refl)
+    and (good edition _ _ (record { limits = typeLength ∷ compressionLength ∷ []; known = refl; areValues = refl; isCount = refl; counts = refl } and tt) refl refl refl tt tt refl and refl)
     and (good edition _ _ (record { isTag = tag03; known = refl; sixBytes = refl; oneOrMore = refl; plainBytes = refl; allTagged = refl } and tt) refl refl refl tt tt refl and refl)
     and (good edition _ _ (record { permitted = restByte; known = refl; notEmpty = refl; permittedBytes = refl } and tt) refl refl refl tt tt refl and refl)
     and tt

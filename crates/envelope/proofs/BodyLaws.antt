@@ -11,7 +11,7 @@ use Rattle.label.specs.Bytes.{Bytes, GS, RS, every}
 use Rattle.label.proofs.Tests.{cond-yes, cond-no}
 use Rattle.leaves.specs.Seek.{seek}
 use Rattle.pieces.specs.declared.Kind.{Kind}
-use Rattle.pieces.specs.declared.Kind.the-variants.{Fields02, Fields96, Segments03, Segments04, Elements05, Elements06, Text}
+use Rattle.pieces.specs.declared.Kind.the-variants.{Fields02, Fields96, Segments03, Segments04, Elements05, Elements06, Text, Elements12}
 use Rattle.bodies.specs.Kinds.{permittedOf, rulesOf, rowsOfBody}
 use Rattle.bodies.proofs.RuleLaws.{rows-inside, tally-inside}
 use Rattle.faults.specs.PieceFaults.{faultOf}
@@ -73,6 +73,7 @@ rows-few Fields96 body = omega (arith, tally-inside GS body)
 rows-few Segments03 body = omega (arith, rows-inside body)
 rows-few Segments04 body = omega (arith, rows-inside body)
 rows-few Elements05 body = omega (arith, tally-inside GS body)
+rows-few Elements12 body = omega (arith, tally-inside GS body)
 rows-few Elements06 body = omega (arith, tally-inside GS body)
 rows-few Text body = omega arith
 

@@ -3,7 +3,7 @@ use Prim.Native.Nat.{ℕ, suc, _+_, _-_, _≤_, _<_}
 use mathlib.Core.Path.{_≡_, refl, sym, ap, _∙_}
 use mathlib.Core.Bool.{Bool, true, false, not, _&&_, cond}
 use mathlib.Core.Option.{Option, none, some}
-use mathlib.Core.List.{[], _∷_, _++_}
+use mathlib.Core.List.{[], _∷_, _++_, List}
 use native.Mathlib.Omega.{arith}
 use borrow.Author.Tests.{le-leb, lt-leb, ltb-true, ltb-false, lt-ltb, le-ltb, eqb-true, eqb-false}
 use lib.ListN.{length, getD, take, drop, take-append-drop, length-take, length-drop}
@@ -17,13 +17,14 @@ use Rattle.label.specs.Limits.{longAs, _to_}
 use Rattle.label.specs.declared.BodyFault.{BodyFault}
 use Rattle.label.specs.declared.BodyFault.the-variants.{InPiece, OfWhole}
 use Rattle.label.specs.Pieces.{pieces, lastIsEmpty, Cut, cut}
-use Rattle.label.specs.Values.{Version, version02, version96, versionDigits, releaseLength, release, payloadType, compression, count, value}
+use Rattle.label.specs.Values.{Version, version02, version96, versionDigits, releaseLength, release, typeLength, compressionLength, headerValue, count, value}
 use Rattle.label.specs.Faults.{elementsFault, wholeFault}
 use Rattle.label.specs.Segments.{tagged}
 use Rattle.label.specs.Formats.{ruleOf, restByte, textByte}
 use Rattle.label.specs.Envelope.{Envelope, fields, wholeRest, segments, elements, text, counted}
-use Rattle.label.specs.Written.{pieceRow, parts}
-use Rattle.label.specs.ReadEnvelope.{Step, closed, whole, refuse, must, opened, valuedAt, valued, broken, bodyAt, bodied, plainOrGS, segmentByte, versionOf, readFields, readTransport, readRest, segmentsIn, areSegments, readSegments, readElements, readText, readPayload, readCounted, readBy}
+use Rattle.label.specs.Layout.{mark}
+use Rattle.label.specs.Written.{bodyRow, pieceRow, parts, valueParts, rowed, valueRow}
+use Rattle.label.specs.ReadEnvelope.{Step, closed, whole, refuse, must, opened, valuedAt, valued, broken, bodyAt, bodied, plainOrGS, segmentByte, versionOf, readFields, readTransport, readRest, segmentsIn, areSegments, readSegments, readElements, readText, readPayload, readValues, readCount, readCounted, readBy}
 use Rattle.label.specs.ReadMessage.{agreement}
 use Rattle.label.proofs.Tests.{both, and-both, cond-yes, cond-no}
 use Rattle.label.proofs.EnvelopeSound.{version-so}
@@ -44,9 +45,9 @@ use Rattle.envelope.specs.declared.Found.the-variants.{Closed, Refused, 
 use Rattle.envelope.specs.Shown.{rowCount, shown}
 use Rattle.envelope.specs.Bodies.{faultFound, bodyFound}
 use Rattle.envelope.specs.Headers.{valueEnd}
-use Rattle.envelope.specs.Formats.{beginsAt, transportFound, restFound, segmentsFound, elementsFound, payloadFound, afterValue, countFound, compressionFound, countedFound}
+use Rattle.envelope.specs.Formats.{beginsAt, transportFound, restFound, segmentsFound, elementsFound, payloadFound, afterValue, countFound, countOnlyFound, compressionFound, countedFound}
 use Rattle.envelope.proofs.ValueLaws.{begins-long}
-use Rattle.envelope.proofs.RowCounts.{items-pieces, rows-segments}
+use Rattle.envelope.proofs.RowCounts.{items-pieces, rows-segments, items-append, items-values}
 
 -- what a refusal unless a test holds shows
 shown-must : (m : Bytes) (t : Bool) (r : Reason) (s : Step) → shown m (must t r s) ≡ cond t (shown m s) (Refused r)
@@ -121,7 +122,7 @@ shown-opened m hs at next there inside then = ap (shown m) (opened-by hs (drop a
     by true is = ap (λ l. shown m (next l)) (drop-drop (length hs) at m) ∙ then (begins-long hs m at inside (eqb-true _ _ is))
     by false is = refl
 
--- 05, 06
+-- 05, 06, 12
 
 pieces-rows : (f : ℕ) (body : Bytes) → rowCount (elements f (pieces GS body)) ≡ 1 + (tallyOf GS body + 1)
 unfolding parts
@@ -269,20 +270,20 @@ shown-transport f m at inside = by (beginsAt (GS ∷ ascii "02") m at) (beginsAt
         neither version02 is = eqb-false _ 3 p is
         neither version96 is = eqb-false _ 3 q is
 
--- 09
+-- 09, 15
 
 -- whatever the header values before are called, the same is shown
-pub shown-payload : (m : Bytes) (at n : ℕ) (made : Bytes → Envelope) → at ≤ length m → ((payload : Bytes) → rowCount (made payload) ≡ 5) → shown m (readPayload n made (drop at m)) ≡ payloadFound n m at
+pub shown-payload : (rows : ℕ) (m : Bytes) (at n : ℕ) (made : Bytes → Envelope) → at ≤ length m → ((payload : Bytes) → rowCount (made payload) ≡ rows) → shown m (readPayload n made (drop at m)) ≡ payloadFound rows n m at
 unfolding readPayload
-shown-payload m at n made inside five = shown-must m (ltb n (length (drop at m)) && eqb (getD (drop at m) n 0) RS) _ _ ∙ by (ltb n (length (drop at m))) (eqb (getD (drop at m) n 0) RS) refl
+shown-payload rows m at n made inside counts = shown-must m (ltb n (length (drop at m)) && eqb (getD (drop at m) n 0) RS) _ _ ∙ by (ltb n (length (drop at m))) (eqb (getD (drop at m) n 0) RS) refl
   where
-    by : (s t : Bool) → ltb n (length (drop at m)) ≡ s → cond (s && t) (shown m (closed (made (take n (drop at m))) (drop (n + 1) (drop at m)))) (Refused PayloadDoesNotFit) ≡ cond (s && t) (Closed (at + n + 1) 5) (Refused PayloadDoesNotFit)
+    by : (s t : Bool) → ltb n (length (drop at m)) ≡ s → cond (s && t) (shown m (closed (made (take n (drop at m))) (drop (n + 1) (drop at m)))) (Refused PayloadDoesNotFit) ≡ cond (s && t) (Closed (at + n + 1) rows) (Refused PayloadDoesNotFit)
     by true true h =
         let fits = ltb-true n (length (drop at m)) h in
         let long = length-drop at m in
         let left = length-drop (n + 1) (drop at m) in
         let end : length m - length (drop (n + 1) (drop at m)) ≡ at + n + 1 = omega arith in
-        λ i. Closed (end i) (five (take n (drop at m)) i)
+        λ i. Closed (end i) (counts (take n (drop at m)) i)
     by true false h = refl
     by false t h = refl
 
@@ -324,27 +325,36 @@ module _ (least most : ℕ) (class : ℕ → Bool) (m : Bytes) (at : ℕ) (insid
           ∙ by-test (leb least n && leb n most) (every class (take n bs)) refl refl less
       by-gs false past = ap (λ c. shown m (valuedAt (λ v. longAs (least to most) v && every class v) next c)) (cut-absent GS bs (ltb-false n (length bs) past)) ∙ refused-there (length m) refl
 
-count-step : (f : ℕ) (m : Bytes) (at : ℕ) (t c : Bytes) → at ≤ length m → shown m (valued count (drop at m) λ n rest. readPayload (value n) (counted f t c n) rest) ≡ countFound m at
-unfolding count parts
-count-step f m at t c inside =
-    shown-valued 1 15 digit m at inside (λ n rest. readPayload (value n) (counted f t c n) rest) (payloadFound (value (take (valueEnd 1 15 digit m at - at) (drop at m))) m)
+-- how many rows header values, a count and a payload are, behind an indicator
+counted-rows : (f : ℕ) (vs : List Bytes) (n payload : Bytes) → rowCount (counted f vs n payload) ≡ 3 + length vs
+unfolding parts
+counted-rows f vs n payload = omega (arith, items-append (valueParts f vs) (rowed valueRow f n ∷ mark GS ∷ rowed bodyRow f payload ∷ []), items-values f vs)
+
+shown-count : (f : ℕ) (vs : List Bytes) (m : Bytes) (at : ℕ) → at ≤ length m → shown m (readCount f vs (drop at m)) ≡ countFound (3 + length vs) m at
+unfolding readCount count
+shown-count f vs m at inside =
+    shown-valued 1 15 digit m at inside (λ n rest. readPayload (value n) (counted f vs n) rest) (payloadFound (3 + length vs) (value (take (valueEnd 1 15 digit m at - at) (drop at m))) m)
     (λ end is less.
-    shown-payload m (end + 1) (value (take (end - at) (drop at m))) (counted f t c (take (end - at) (drop at m))) (omega arith) (λ payload. refl)
-    ∙ ap (λ e. payloadFound (value (take (e - at) (drop at m))) m (end + 1)) is)
+    shown-payload (3 + length vs) m (end + 1) (value (take (end - at) (drop at m))) (counted f vs (take (end - at) (drop at m))) (omega arith) (counted-rows f vs (take (end - at) (drop at m)))
+    ∙ ap (λ e. payloadFound (3 + length vs) (value (take (e - at) (drop at m))) m (end + 1)) is)
+
+pub shown-count-only : (f : ℕ) (m : Bytes) (at : ℕ) → at ≤ length m → shown m (readCounted [] f (drop at m)) ≡ countOnlyFound m at
+unfolding readCounted
+shown-count-only f m at inside = shown-count f [] m at inside
 
 compression-step : (f : ℕ) (m : Bytes) (at : ℕ) (t : Bytes) → at ≤ length m
-    → shown m (valued compression (drop at m) λ c rest. valued count rest λ n rest. readPayload (value n) (counted f t c n) rest) ≡ compressionFound m at
-unfolding compression
+    → shown m (readValues (compressionLength ∷ []) (drop at m) λ vs. readCount f (t ∷ vs)) ≡ compressionFound m at
+unfolding headerValue
 compression-step f m at t inside =
-    shown-valued 0 30 plain m at inside (λ c rest. valued count rest λ n rest. readPayload (value n) (counted f t c n) rest) (countFound m)
-    (λ end is less. count-step f m (end + 1) t (take (end - at) (drop at m)) (omega arith))
+    shown-valued 0 30 plain m at inside (λ c. readCount f (t ∷ c ∷ [])) (countFound 5 m)
+    (λ end is less. shown-count f (t ∷ take (end - at) (drop at m) ∷ []) m (end + 1) (omega arith))
 
-pub shown-counted : (f : ℕ) (m : Bytes) (at : ℕ) → at ≤ length m → shown m (readCounted f (drop at m)) ≡ countedFound m at
-unfolding readCounted payloadType
+pub shown-counted : (f : ℕ) (m : Bytes) (at : ℕ) → at ≤ length m → shown m (readCounted (typeLength ∷ compressionLength ∷ []) f (drop at m)) ≡ countedFound m at
+unfolding readCounted headerValue
 shown-counted f m at inside =
     shown-opened m (GS ∷ []) at _ (afterValue m (valueEnd 1 30 plain m (at + 1)) (compressionFound m)) inside
     (λ long.
-    shown-valued 1 30 plain m (at + 1) long (λ t rest. valued compression rest λ c rest. valued count rest λ n rest. readPayload (value n) (counted f t c n) rest) (compressionFound m)
+    shown-valued 1 30 plain m (at + 1) long (λ t rest. readValues (compressionLength ∷ []) rest λ vs. readCount f (t ∷ vs)) (compressionFound m)
     (λ end is less. compression-step f m (end + 1) (take (end - (at + 1)) (drop (at + 1) m)) (omega arith)))
 
 -- By the shape

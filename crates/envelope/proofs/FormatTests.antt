@@ -34,16 +34,16 @@ module _ (k : Kind) (m : Bytes) (at : ℕ) (inside : at ≤ length m) where
   segments-body long class marks =
       sym (cond-yes _ _ _ (and-both (and-both (ap not (le-ltb (length m) (at + releaseLength) (omega arith))) class) (eq-eqb _ 3 marks)))
 
-module _ (n : ℕ) (m : Bytes) (at : ℕ) where
-  pub payload-long : length m - at ≤ n → Refused PayloadDoesNotFit ≡ payloadFound n m at
+module _ (rows n : ℕ) (m : Bytes) (at : ℕ) where
+  pub payload-long : length m - at ≤ n → Refused PayloadDoesNotFit ≡ payloadFound rows n m at
   payload-long over =
       let long = length-drop at m in
       sym (cond-no _ _ _ (left-fails {a = ltb n (length (drop at m))} (eqb (getD (drop at m) n 0) RS) (le-ltb n (length (drop at m)) (omega arith))))
 
-  pub payload-other : (getD m (at + n) 0 ≡ RS → ⊥) → Refused PayloadDoesNotFit ≡ payloadFound n m at
+  pub payload-other : (getD m (at + n) 0 ≡ RS → ⊥) → Refused PayloadDoesNotFit ≡ payloadFound rows n m at
   payload-other other = sym (cond-no _ _ _ (right-fails (ltb n (length (drop at m))) (ne-eqb _ RS (λ is. other (sym (getD-drop at m n 0) ∙ is)))))
 
-  pub payload-fits : n < length m - at → getD m (at + n) 0 ≡ RS → Closed (at + n + 1) 5 ≡ payloadFound n m at
+  pub payload-fits : n < length m - at → getD m (at + n) 0 ≡ RS → Closed (at + n + 1) rows ≡ payloadFound rows n m at
   payload-fits fits is =
       let long = length-drop at m in
       sym (cond-yes _ _ _ (and-both (lt-ltb n (length (drop at m)) (omega arith)) (eq-eqb _ RS (getD-drop at m n 0 ∙ is))))

@@ -11,7 +11,7 @@ use Rattle.label.specs.Bytes.{Bytes, FS, GS, US, isEmpty}
 use Rattle.label.specs.Pieces.{pieceWith, pieces, lastIsEmpty, withoutLast}
 use Rattle.label.specs.Segments.{Element, Segment}
 use Rattle.label.specs.Layout.{Part, mark, itemsOf, further, separated, ended}
-use Rattle.label.specs.Written.{rowedEach, elementRow, subElementRow, tagRow, elementParts, segmentParts}
+use Rattle.label.specs.Written.{rowedEach, elementRow, subElementRow, tagRow, elementParts, segmentParts, valueParts, valueRow}
 use Rattle.label.specs.ReadEnvelope.{segmentsIn}
 use Rattle.label.proofs.Splitting.{pieces-some}
 use Rattle.label.proofs.SegmentLaws.{segmentCut}
@@ -30,6 +30,15 @@ items-further c k f (p ∷ ps) = ap suc (items-further c k f ps)
 pub items-pieces : (c k f : ℕ) (ps : List Bytes) → length (itemsOf (separated c (rowedEach k f ps))) ≡ length ps
 items-pieces c k f [] = refl
 items-pieces c k f (p ∷ ps) = ap suc (items-further c k f ps)
+
+-- values that are a row each
+items-ended : (c k f : ℕ) (vs : List Bytes) → length (itemsOf (ended c (rowedEach k f vs))) ≡ length vs
+items-ended c k f [] = refl
+items-ended c k f (v ∷ vs) = ap suc (items-ended c k f vs)
+
+pub items-values : (f : ℕ) (vs : List Bytes) → length (itemsOf (valueParts f vs)) ≡ length vs
+items-values f [] = refl
+items-values f (v ∷ vs) = items-ended GS valueRow f (v ∷ vs)
 
 items-element : (k f : ℕ) (e : Element) → length (itemsOf (elementParts k f e)) ≡ length e
 items-element k f [] = refl

@@ -41,24 +41,29 @@ segmentsFound k m at =
     (bodyFound k 2 m (at + releaseLength + 3))
     (Refused BadFormatHeader)
 
--- 05, 06: GS
+-- 05, 06, 12: GS
 abbrev pub elementsFound : Kind → Bytes → ℕ → Found
 elementsFound k m at = cond (beginsAt (GS ∷ []) m at) (bodyFound k 1 m (at + 1)) (Refused BadFormatHeader)
 
--- 09: the payload and its RS
-abbrev pub payloadFound : ℕ → Bytes → ℕ → Found
-payloadFound n m at = cond (ltb n (length (drop at m)) && eqb (getD (drop at m) n 0) RS) (Closed (at + n + 1) 5) (Refused PayloadDoesNotFit)
+-- 09, 15: the payload and its RS, given how many rows the envelope has
+abbrev pub payloadFound : ℕ → ℕ → Bytes → ℕ → Found
+payloadFound rows n m at = cond (ltb n (length (drop at m)) && eqb (getD (drop at m) n 0) RS) (Closed (at + n + 1) rows) (Refused PayloadDoesNotFit)
 
--- 09: a header value that ends before the message does, and then what follows its GS
+-- 09, 15: a header value that ends before the message does, and then what follows its GS
 abbrev pub afterValue : Bytes → ℕ → (ℕ → Found) → Found
 afterValue m end next = cond (ltb end (length m)) (next (end + 1)) (Refused BadFormatHeader)
 
--- 09: count, compression, type, each and what follows
-abbrev pub countFound : Bytes → ℕ → Found
-countFound m at = afterValue m (valueEnd (countLength .0) (countLength .1) digit m at) (payloadFound (value (take (valueEnd (countLength .0) (countLength .1) digit m at - at) (drop at m))) m)
+-- 09, 15: the count and what follows
+abbrev pub countFound : ℕ → Bytes → ℕ → Found
+countFound rows m at = afterValue m (valueEnd (countLength .0) (countLength .1) digit m at) (payloadFound rows (value (take (valueEnd (countLength .0) (countLength .1) digit m at - at) (drop at m))) m)
 
+-- 15: the indicator, the count and the payload are rows
+abbrev pub countOnlyFound : Bytes → ℕ → Found
+countOnlyFound m at = countFound 3 m at
+
+-- 09: so are type and compression, each and what follows
 abbrev pub compressionFound : Bytes → ℕ → Found
-compressionFound m at = afterValue m (valueEnd (compressionLength .0) (compressionLength .1) plain m at) (countFound m)
+compressionFound m at = afterValue m (valueEnd (compressionLength .0) (compressionLength .1) plain m at) (countFound 5 m)
 
 abbrev pub countedFound : Bytes → ℕ → Found
 countedFound m at = cond (beginsAt (GS ∷ []) m at) (afterValue m (valueEnd (typeLength .0) (typeLength .1) plain m (at + 1)) (compressionFound m)) (Refused BadFormatHeader)

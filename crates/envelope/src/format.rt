@@ -18,7 +18,7 @@ use tallies::agree;
 ghost use mathlib.Core.Path.{_≡_};
 ghost use Prim.Native.Nat.{_≤_};
 ghost use lib.ListN.{length};
-ghost use Rattle.envelope.specs.Formats.{transportFound, restFound, segmentsFound, elementsFound, payloadFound, countFound, compressionFound, countedFound};
+ghost use Rattle.envelope.specs.Formats.{transportFound, restFound, segmentsFound, elementsFound, payloadFound, countFound, countOnlyFound, compressionFound, countedFound};
 
 // 01: GS, `02` or `96`, fields.
 pub(crate) fn judge_transport(m: &[u8], at: usize) -> Found
@@ -66,7 +66,7 @@ pub(crate) fn judge_segments(m: &[u8], at: usize, k: Kind) -> Found
     judge_body(m, after + 3, k, 2)
 }
 
-// 05, 06: GS, elements.
+// 05, 06, 12: GS, elements.
 pub(crate) fn judge_elements(m: &[u8], at: usize, k: Kind) -> Found
     requires { ⌜ at ≤ length (now m) ⌝ }
     ensures { λ r. ⌜ r ≡ elementsFound k (now (m .entry)) at ⌝ }
@@ -77,10 +77,10 @@ pub(crate) fn judge_elements(m: &[u8], at: usize, k: Kind) -> Found
     judge_body(m, at + 1, k, 1)
 }
 
-// 09: the payload of a count, and the RS behind it; nothing is looked for inside.
-fn judge_payload(m: &[u8], at: usize, n: usize) -> Found
+// 09, 15: the payload of a count, and the RS behind it; nothing is looked for inside. The envelope's rows are told.
+fn judge_payload(m: &[u8], at: usize, n: usize, rows: usize) -> Found
     requires { ⌜ at ≤ length (now m) ⌝ }
-    ensures { λ r. ⌜ r ≡ payloadFound n (now (m .entry)) at ⌝ }
+    ensures { λ r. ⌜ r ≡ payloadFound rows n (now (m .entry)) at ⌝ }
 {
     if m.len() - at <= n {
         return Found::Refused(Reason::PayloadDoesNotFit);
@@ -89,20 +89,20 @@ fn judge_payload(m: &[u8], at: usize, n: usize) -> Found
     if m[end] != RS {
         return Found::Refused(Reason::PayloadDoesNotFit);
     }
-    Found::Closed(end + 1, 5)
+    Found::Closed(end + 1, rows)
 }
 
-// 09: the count and its GS, then the payload.
-fn judge_count(m: &[u8], at: usize) -> Found
+// 09, 15: the count and its GS, then the payload.
+fn judge_count(m: &[u8], at: usize, rows: usize) -> Found
     requires { ⌜ at ≤ length (now m) ⌝ }
-    ensures { λ r. ⌜ r ≡ countFound (now (m .entry)) at ⌝ }
+    ensures { λ r. ⌜ r ≡ countFound rows (now (m .entry)) at ⌝ }
 {
     let end = value_end(m, at, LEAST_COUNT, MOST_COUNT, Class::Digit);
     if m.len() <= end {
         return Found::Refused(Reason::BadFormatHeader);
     }
     let n = digits_value(&m[at..end]);
-    judge_payload(m, end + 1, n)
+    judge_payload(m, end + 1, n, rows)
 }
 
 // 09: the compression and its GS, then the count.
@@ -114,7 +114,7 @@ fn judge_compression(m: &[u8], at: usize) -> Found
     if m.len() <= end {
         return Found::Refused(Reason::BadFormatHeader);
     }
-    judge_count(m, end + 1)
+    judge_count(m, end + 1, 5)
 }
 
 // 09: GS, the type and its GS, then the compression.
@@ -130,4 +130,12 @@ pub(crate) fn judge_counted(m: &[u8], at: usize) -> Found
         return Found::Refused(Reason::BadFormatHeader);
     }
     judge_compression(m, end + 1)
+}
+
+// 15: the count right behind the indicator.
+pub(crate) fn judge_count_only(m: &[u8], at: usize) -> Found
+    requires { ⌜ at ≤ length (now m) ⌝ }
+    ensures { λ r. ⌜ r ≡ countOnlyFound (now (m .entry)) at ⌝ }
+{
+    judge_count(m, at, 3)
 }

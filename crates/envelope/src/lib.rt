@@ -47,6 +47,8 @@ fn judge_format(edition: Edition, m: &[u8], at: usize, f: usize, first: bool) ->
         Shape::Elements06 => format::judge_elements(m, at, Kind::Elements06),
         Shape::Text => body::judge_body(m, at, Kind::Text, 1),
         Shape::Counted => format::judge_counted(m, at),
+        Shape::Elements12 => format::judge_elements(m, at, Kind::Elements12),
+        Shape::CountOnly => format::judge_count_only(m, at),
         Shape::Unknown => Found::Refused(Reason::UnknownFormat),
     }
 }

@@ -19,14 +19,14 @@ use Rattle.label.specs.Pieces.{pieces, lastIsEmpty}
 use Rattle.label.specs.declared.Limit.{Limit}
 use Rattle.label.specs.Limits.{limitOf, longAs}
 use Rattle.label.specs.Values.{Version, version02, version96}
-use Rattle.label.specs.Elements.{element05, element06}
+use Rattle.label.specs.Elements.{element05, element06, element12}
 use Rattle.label.specs.Fields.{fieldBytes, versionRow, mostFields, leastFields, field}
 use Rattle.label.specs.Faults.{faultOr, firstFault, elementFault, leftOut, fieldFault, countFits, fieldsFault, elementsFault}
 use Rattle.label.proofs.Faults.{not-leb}
 use Rattle.label.proofs.Splitting.{joined, joined-pieces}
 use Rattle.leaves.specs.Seek.{tallyOf}
 use Rattle.pieces.specs.declared.Kind.{Kind}
-use Rattle.pieces.specs.declared.Kind.the-variants.{Fields02, Fields96, Segments03, Segments04, Elements05, Elements06, Text}
+use Rattle.pieces.specs.declared.Kind.the-variants.{Fields02, Fields96, Segments03, Segments04, Elements05, Elements06, Text, Elements12}
 use Rattle.bodies.proofs.RuleLaws.{pieces-count}
 use Rattle.faults.specs.PieceFaults.{fieldReason, pieceFault, fieldsFaultOf, faultOf}
 
@@ -111,13 +111,8 @@ pub in-fields-96 : (k : Kind) → k ≡ Fields96 → (body : Bytes) → fieldsFa
 in-fields-96 k is body =
     ap (λ x. fieldsFaultOf (pieceFault x) (mostFields version96) body) is ∙ fields-fault-by version96 (pieceFault Fields96) (field-fault-by version96) body ∙ ap (λ x. faultOf x body) (sym is)
 
-pub in-elements-05 : (k : Kind) → k ≡ Elements05 → (body : Bytes) → firstFault (pieceFault k) 0 0 (pieces GS body) ≡ faultOf k body
-unfolding elementsFault elementFault
-in-elements-05 k is body = ap (λ x. firstFault (pieceFault x) 0 0 (pieces GS body)) is ∙ ap (λ x. faultOf x body) (sym is)
-
-pub in-elements-06 : (k : Kind) → k ≡ Elements06 → (body : Bytes) → firstFault (pieceFault k) 0 0 (pieces GS body) ≡ faultOf k body
-unfolding elementsFault elementFault
-in-elements-06 k is body = ap (λ x. firstFault (pieceFault x) 0 0 (pieces GS body)) is ∙ ap (λ x. faultOf x body) (sym is)
+pub in-elements : (k k′ : Kind) → k ≡ k′ → (body : Bytes) → firstFault (pieceFault k′) 0 0 (pieces GS body) ≡ faultOf k′ body → firstFault (pieceFault k) 0 0 (pieces GS body) ≡ faultOf k body
+in-elements k k′ is body law = ap (λ x. firstFault (pieceFault x) 0 0 (pieces GS body)) is ∙ law ∙ ap (λ x. faultOf x body) (sym is)
 
 -- The search for the first
 
@@ -174,4 +169,5 @@ fault-inside Segments03 body r n found = let z : _≡_ {A = ℕ} 0 1 = cc in abs
 fault-inside Segments04 body r n found = let z : _≡_ {A = ℕ} 0 1 = cc in absurd (omega arith)
 fault-inside Elements05 body r n found = pieces-inside (elementFault element05) body r n found
 fault-inside Elements06 body r n found = pieces-inside (elementFault element06) body r n found
+fault-inside Elements12 body r n found = pieces-inside (elementFault element12) body r n found
 fault-inside Text body r n found = let z : _≡_ {A = ℕ} 0 1 = cc in absurd (omega arith)

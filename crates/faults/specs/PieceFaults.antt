@@ -13,12 +13,12 @@ use Rattle.label.specs.Bytes.{Bytes, GS}
 use Rattle.label.specs.Pieces.{pieces, lastIsEmpty}
 use Rattle.label.specs.Limits.{limitOf}
 use Rattle.label.specs.Values.{version02, version96}
-use Rattle.label.specs.Elements.{element05, element06}
+use Rattle.label.specs.Elements.{element05, element06, element12}
 use Rattle.label.specs.Fields.{leastFields}
 use Rattle.label.specs.Faults.{firstFault, fieldsFault, elementsFault, wholeFault}
 use Rattle.leaves.specs.Seek.{tallyOf}
 use Rattle.pieces.specs.declared.Kind.{Kind}
-use Rattle.pieces.specs.declared.Kind.the-variants.{Fields02, Fields96, Segments03, Segments04, Elements05, Elements06, Text}
+use Rattle.pieces.specs.declared.Kind.the-variants.{Fields02, Fields96, Segments03, Segments04, Elements05, Elements06, Text, Elements12}
 use Rattle.pieces.specs.PieceTests.{pieceTest}
 
 -- why a field is refused that isn't as stated, by the row of its version in the limits
@@ -36,6 +36,7 @@ reasonOf Segments04 i n = BodyBreaksRules
 reasonOf Elements05 i n = BodyBreaksRules
 reasonOf Elements06 i n = BodyBreaksRules
 reasonOf Text i n = BodyBreaksRules
+reasonOf Elements12 i n = BodyBreaksRules
 
 -- the fault of the piece with an index
 abbrev pub pieceFault : Kind → ℕ → Bytes → PieceFault
@@ -57,3 +58,4 @@ faultOf Segments04 body = wholeFault body
 faultOf Elements05 body = elementsFault element05 body
 faultOf Elements06 body = elementsFault element06 body
 faultOf Text body = wholeFault body
+faultOf Elements12 body = elementsFault element12 body

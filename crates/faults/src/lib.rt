@@ -40,6 +40,7 @@ fn reason_of(k: Kind, i: usize, n: usize) -> Reason
         Kind::Elements05 => Reason::BodyBreaksRules,
         Kind::Elements06 => Reason::BodyBreaksRules,
         Kind::Text => Reason::BodyBreaksRules,
+        Kind::Elements12 => Reason::BodyBreaksRules,
     }
 }
 
@@ -97,5 +98,6 @@ pub fn fault_in(k: Kind, body: &[u8]) -> BodyFault
         Kind::Elements05 => first_fault(k, body),
         Kind::Elements06 => first_fault(k, body),
         Kind::Text => BodyFault::OfWhole,
+        Kind::Elements12 => first_fault(k, body),
     }
 }

@@ -14,7 +14,7 @@ use Rattle.label.specs.Message.{Each}
 use Rattle.label.proofs.AllDefinitions.{all-definitions}
 use Rattle.label.proofs.Editions.{isKnown}
 use Rattle.formats.specs.declared.Shape.{Shape}
-use Rattle.formats.specs.declared.Shape.the-variants.{Fields, Rest, Segments03, Segments04, Elements05, Elements06, Text, Counted, Unknown}
+use Rattle.formats.specs.declared.Shape.the-variants.{Fields, Rest, Segments03, Segments04, Elements05, Elements06, Elements12, Text, Counted, CountOnly, Unknown}
 use Rattle.formats.specs.Shapes.{ruleFor}
 
 -- a number that is none of 2005's
@@ -35,18 +35,22 @@ only-added edition f none-of =
       ne-eqb f 9 (none-of .1),
     )
 
-pub none-added : (edition : Edition) (f : ℕ) → ruleIn f (added edition) ≡ unknown
-none-added Edition2005 f = refl
-none-added Edition2025 f = refl
+-- nor one that 2025 adds
+abbrev pub NotAdded : ℕ → Type 0
+NotAdded f = (Unit {0} × (f ≡ 12 → ⊥)) × (f ≡ 15 → ⊥)
+
+pub none-added : (f : ℕ) → NotAdded f → ruleIn f (added Edition2025) ≡ unknown
+none-added f none-of = simp (ne-eqb f 12 (none-of .0 .1), ne-eqb f 15 (none-of .1))
 
 -- the shape that a rule is of
 abbrev shapeBack : Rule → Shape
 shapeBack asFields = Fields
 shapeBack (asRest permitted) = Rest
 shapeBack (asSegments isTag) = cond (isTag (ascii "BIN")) Segments04 Segments03
-shapeBack (asElements isElement) = cond (isElement (ascii "00A")) Elements05 Elements06
+shapeBack (asElements isElement) = cond (isElement (ascii "00A")) Elements05 (cond (isElement (ascii "AAAA")) Elements06 Elements12)
 shapeBack (asText permitted) = Text
-shapeBack asCounted = Counted
+shapeBack (asCounted []) = CountOnly
+shapeBack (asCounted (l ∷ ls)) = Counted
 shapeBack unknown = Unknown
 
 back : (s : Shape) → shapeBack (ruleFor s) ≡ s
@@ -57,8 +61,10 @@ back Segments03 = refl
 back Segments04 = refl
 back Elements05 = refl
 back Elements06 = refl
+back Elements12 = refl
 back Text = refl
 back Counted = refl
+back CountOnly = refl
 back Unknown = refl
 
 pub one-shape : (s s′ : Shape) → ruleFor s ≡ ruleFor s′ → s ≡ s′
@@ -72,8 +78,10 @@ numberFor Segments03 = 3
 numberFor Segments04 = 4
 numberFor Elements05 = 5
 numberFor Elements06 = 6
+numberFor Elements12 = 12
 numberFor Text = 7
 numberFor Counted = 9
+numberFor CountOnly = 15
 numberFor Unknown = 0
 
 Numbered : Format → Type 0
@@ -82,7 +90,7 @@ Numbered f = f .number ≡ numberFor (shapeBack (f .rule))
 each-numbered : (edition : Edition) → Each Numbered (formats edition)
 unfolding Numbered all-definitions
 each-numbered Edition2005 = (refl, (refl, (refl, (refl, (refl, (refl, (refl, (refl, tt))))))))
-each-numbered Edition2025 = (refl, (refl, (refl, (refl, (refl, (refl, (refl, (refl, tt))))))))
+each-numbered Edition2025 = (refl, (refl, (refl, (refl, (refl, (refl, (refl, (refl, (refl, (refl, tt))))))))))
 
 number-in : (n : ℕ) (fs : List Format) → Each Numbered fs → isKnown (ruleIn n fs) ≡ true → n ≡ numberFor (shapeBack (ruleIn n fs))
 unfolding Numbered

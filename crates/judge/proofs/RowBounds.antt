@@ -9,7 +9,7 @@ use Rattle.label.specs.Values.{Version, version02, version96, versionDigits}
 use Rattle.label.specs.Segments.{Element, Segment}
 use Rattle.label.specs.Layout.{Part, mark, bytesOf, itemsOf, further, separated, ended}
 use Rattle.label.specs.Envelope.{Envelope, fields, wholeRest, segments, elements, text, counted}
-use Rattle.label.specs.Written.{rowed, rowedEach, elementRow, subElementRow, tagRow, pieceRow, elementParts, segmentParts, parts}
+use Rattle.label.specs.Written.{rowed, rowedEach, elementRow, subElementRow, tagRow, pieceRow, elementParts, segmentParts, parts, valueParts, valueRow, bodyRow}
 use Rattle.label.specs.Message.{Each}
 use Rattle.label.proofs.Laid.{bytes-append}
 use Rattle.envelope.specs.Shown.{rowCount}
@@ -57,6 +57,10 @@ each-segment : (f : ℕ) (ss : List Segment) → Each (Under 1) (map (segmentPar
 each-segment f [] = tt
 each-segment f (s ∷ ss) = (under-segment f s, each-segment f ss)
 
+under-values : (f : ℕ) (vs : List Bytes) → Under 0 (valueParts f vs)
+under-values f [] = omega arith
+under-values f (v ∷ vs) = omega (arith, under-ended GS (rowedEach valueRow f (v ∷ vs)) (each-rowed valueRow f (v ∷ vs)))
+
 two-digits-long : (v : Version) → length (versionDigits v) ≡ 2
 two-digits-long version02 = refl
 two-digits-long version96 = refl
@@ -68,10 +72,13 @@ few-rows (wholeRest f body) = omega (arith, length-append body [])
 few-rows (segments f header ss) = omega (arith, under-ended FS (map (segmentParts f) ss) (each-segment f ss), length-append header (FS ∷ (GS ∷ (US ∷ bytesOf (ended FS (map (segmentParts f) ss))))))
 few-rows (elements f es) = omega (arith, under-pieces GS pieceRow f es)
 few-rows (text f body) = omega (arith, length-append body [])
-few-rows (counted f t c n payload) =
+few-rows (counted f vs n payload) =
+    let tail = rowed valueRow f n ∷ mark GS ∷ rowed bodyRow f payload ∷ [] in
     omega (
       arith,
-      length-append t (GS ∷ (c ++ (GS ∷ (n ++ (GS ∷ (payload ++ [])))))),
-      length-append c (GS ∷ (n ++ (GS ∷ (payload ++ [])))),
+      items-append (valueParts f vs) tail,
+      ap length (bytes-append (valueParts f vs) tail),
+      length-append (bytesOf (valueParts f vs)) (bytesOf tail),
+      under-values f vs,
       length-append n (GS ∷ (payload ++ [])),
     )

@@ -9,13 +9,14 @@ use borrow.Author.Tests.{lt-ltb, eq-eqb, leb-true}
 use lib.ListN.{length, take, drop, length-append}
 use lib.Seq.{take-append-seam, drop-append-add, getD-append-seam, take-at, drop-at}
 use lib.Dec.{leb, eqb}
+use Rattle.label.specs.declared.Limit.{Limit}
 use Rattle.label.specs.declared.Reason.{Reason}
 use Rattle.label.specs.declared.Reason.the-variants.{BadFormatHeader}
 use Rattle.label.specs.declared.BodyFault.{BodyFault}
 use Rattle.label.specs.Bytes.{Bytes, EOT, FS, GS, RS, US, control, plain, digit, below80, every, isEmpty}
 use Rattle.label.specs.Limits.{longAs, _to_}
 use Rattle.label.specs.Pieces.{pieces, lastIsEmpty}
-use Rattle.label.specs.Values.{Version, version02, version96, versionDigits, releaseLength, release, payloadType, compression, count}
+use Rattle.label.specs.Values.{Version, version02, version96, versionDigits, releaseLength, release, headerValue, headerValues, count, value}
 use Rattle.label.specs.Segments.{Segment, tagged}
 use Rattle.label.specs.Fields.{transport}
 use Rattle.label.specs.Faults.{fieldsFault, elementsFault, wholeFault}
@@ -26,10 +27,10 @@ use Rattle.label.specs.Layout.{bytesOf}
 use Rattle.label.specs.Envelope.{Envelope, fields, wholeRest, segments, elements, text, counted, Within}
 use Rattle.label.specs.Written.{twoDigits, parts}
 use Rattle.label.specs.Message.{isTransport, isRest, Each}
-use Rattle.label.specs.ReadEnvelope.{Step, closed, whole, must, opened, valuedAt, valued, broken, bodyAt, bodied, plainOrGS, versionOf, readFields, readTransport, readRest, segmentByte, segmentsIn, areSegments, readSegments, readElements, readText, readPayload, readCounted, readBy, readEnvelope}
+use Rattle.label.specs.ReadEnvelope.{Step, closed, whole, must, opened, valuedAt, valued, broken, bodyAt, bodied, plainOrGS, versionOf, readFields, readTransport, readRest, segmentByte, segmentsIn, areSegments, readSegments, readElements, readText, readPayload, readValues, readCount, readCounted, readBy, readEnvelope}
 use Rattle.label.proofs.Tests.{both, and-both, cond-yes, cond-no, or-left, or-right, or-not, free, free-of, Without, without-or, without-one, plain-without, digit-without, not-true, not-false, every-implies}
-use Rattle.label.proofs.Splitting.{joined, pieces-of-joined, last-of-terminated, cut-front, every-joined}
-use Rattle.label.proofs.Laid.{segmentBytes, contentBytes, formatOf, bytes-envelope}
+use Rattle.label.proofs.Splitting.{joined, pieces-of-joined, last-of-terminated, cut-front, every-joined, terminated}
+use Rattle.label.proofs.Laid.{segmentBytes, contentBytes, formatOf, bytes-envelope, valueBytes}
 use Rattle.label.proofs.SegmentLaws.{bodyOf, body-bytes, body-pieces, segments-again}
 use Rattle.label.proofs.Editions.{isKnown, each-rule}
 use Rattle.label.proofs.Digits.{two-digits, known-small}
@@ -91,12 +92,12 @@ Sound (asRest permitted) = Unit {0}
 Sound (asSegments isTag) = Unit {0}
 Sound (asElements isElement) = Unit {0}
 Sound (asText permitted) = Without RS permitted
-Sound asCounted = Unit {0}
+Sound (asCounted limits) = Unit {0}
 Sound unknown = Unit {0}
 
 rules-sound : (edition : Edition) → Each (λ (f : Format). Sound (f .rule)) (formats edition)
 rules-sound Edition2005 = (tt, (tt, (tt, (tt, (tt, (tt, (text-byte-without, (tt, tt))))))))
-rules-sound Edition2025 = (tt, (tt, (tt, (tt, (tt, (tt, (text-byte-without, (tt, tt))))))))
+rules-sound Edition2025 = (tt, (tt, (tt, (tt, (tt, (tt, (text-byte-without, (tt, (tt, (tt, tt))))))))))
 
 pub text-without : (edition : Edition) (f : ℕ) (permitted : ℕ → Bool) → ruleOf edition f ≡ asText permitted → Without RS permitted
 text-without edition f permitted known = subst Sound known (each-rule Sound tt edition f (rules-sound edition))
@@ -198,15 +199,39 @@ payload-pass made payload left =
     (eq-eqb _ RS (getD-append-seam payload RS left 0)))
     ∙ (λ i. closed (made (take-append-seam payload (RS ∷ left) i)) (drop-append-add payload (RS ∷ left) 1 i))
 
-counted-pass : (edition : Edition) (f : ℕ) (t c n payload left : Bytes) → Within edition (counted f t c n payload)
-    → readCounted f (GS ∷ (t ++ (GS ∷ (c ++ (GS ∷ (n ++ (GS ∷ (payload ++ (RS ∷ left))))))))) ≡ closed (counted f t c n payload) left
-unfolding readCounted payloadType compression count
-counted-pass edition f t c n payload left w =
-    valued-pass payloadType t _ _ (free-of GS plain (plain-without GS (omega arith)) t (both (longAs (1 to 30) t) (every plain t) (w .isType) .right)) (w .isType)
-    ∙ valued-pass compression c _ _ (free-of GS plain (plain-without GS (omega arith)) c (both (longAs (0 to 30) c) (every plain c) (w .isCompression) .right)) (w .isCompression)
-    ∙ valued-pass count n _ _ (free-of GS digit (digit-without GS (omega arith)) n (both (longAs (1 to 15) n) (every digit n) (w .isCount) .right)) (w .isCount)
-    ∙ ap (λ k. readPayload k (counted f t c n) (payload ++ (RS ∷ left))) (w .counts)
-    ∙ payload-pass (counted f t c n) payload left
+-- a header value has no GS
+value-free : (limit : Limit) (v : Bytes) → headerValue limit v ≡ true → free GS v ≡ true
+unfolding headerValue
+value-free limit v is = free-of GS plain (plain-without GS (omega arith)) v (both (longAs limit v) (every plain v) is .right)
+
+values-pass : (limits : List Limit) (vs : List Bytes) (rest : Bytes) (next : List Bytes → Bytes → Step) → headerValues limits vs ≡ true → readValues limits (terminated GS vs ++ rest) next ≡ next vs rest
+values-pass [] [] rest next are = refl
+values-pass [] (v ∷ vs) rest next are = absurd (false≢true are)
+values-pass (l ∷ ls) [] rest next are = absurd (false≢true are)
+values-pass (l ∷ ls) (v ∷ vs) rest next are =
+    let k = both (headerValue l v) (headerValues ls vs) are in
+    ap (λ bs. readValues (l ∷ ls) bs next) (append-assoc v (GS ∷ terminated GS vs) rest)
+    ∙ valued-pass (headerValue l) v _ _ (value-free l v (k .left)) (k .left)
+    ∙ values-pass ls vs rest (λ ws. next (v ∷ ws)) (k .right)
+
+count-pass : (f : ℕ) (vs : List Bytes) (n payload left : Bytes) → count n ≡ true → value n ≡ length payload → readCount f vs (n ++ (GS ∷ (payload ++ (RS ∷ left)))) ≡ closed (counted f vs n payload) left
+unfolding readCount count
+count-pass f vs n payload left isCount counts =
+    valued-pass count n _ _ (free-of GS digit (digit-without GS (omega arith)) n (both (longAs (1 to 15) n) (every digit n) isCount .right)) isCount
+    ∙ ap (λ k. readPayload k (counted f vs n) (payload ++ (RS ∷ left))) counts
+    ∙ payload-pass (counted f vs n) payload left
+
+counted-pass : (edition : Edition) (f : ℕ) (vs : List Bytes) (n payload left : Bytes) (w : Within edition (counted f vs n payload))
+    → readCounted (w .limits) f (valueBytes vs ++ (n ++ (GS ∷ (payload ++ (RS ∷ left))))) ≡ closed (counted f vs n payload) left
+unfolding readCounted
+counted-pass edition f vs n payload left w = by (w .limits) vs (w .areValues) ∙ count-pass f vs n payload left (w .isCount) (w .counts)
+  where
+    by : (limits : List Limit) (vs : List Bytes) → headerValues limits vs ≡ true
+        → readCounted limits f (valueBytes vs ++ (n ++ (GS ∷ (payload ++ (RS ∷ left))))) ≡ readCount f vs (n ++ (GS ∷ (payload ++ (RS ∷ left))))
+    by [] [] are = refl
+    by [] (v ∷ vs) are = absurd (false≢true are)
+    by (l ∷ ls) [] are = absurd (false≢true are)
+    by (l ∷ ls) (v ∷ vs) are = values-pass (l ∷ ls) (v ∷ vs) (n ++ (GS ∷ (payload ++ (RS ∷ left)))) (readCount f) are
 
 -- Behind any indicator of a known format
 
@@ -236,13 +261,13 @@ content-pass edition first (elements f es) left w notRest inPlace =
     indicator-pass edition first f (asElements (w .isElement)) _ (w .known) refl ∙ elements-pass edition f es left w
 content-pass edition first (text f body) left w notRest inPlace =
     indicator-pass edition first f (asText (w .permitted)) _ (w .known) refl ∙ text-pass edition f body left w
-content-pass edition first (counted f t c n payload) left w notRest inPlace =
-    indicator-pass edition first f asCounted _ (w .known) refl
-    ∙ ap (readCounted f) (regrouped t c n payload left)
-    ∙ counted-pass edition f t c n payload left w
+content-pass edition first (counted f vs n payload) left w notRest inPlace =
+    indicator-pass edition first f (asCounted (w .limits)) _ (w .known) refl
+    ∙ ap (readCounted (w .limits) f) (regrouped (valueBytes vs) n payload left)
+    ∙ counted-pass edition f vs n payload left w
   where
-    regrouped : (t c n payload left : Bytes) → contentBytes (counted f t c n payload) ++ (RS ∷ left) ≡ GS ∷ (t ++ (GS ∷ (c ++ (GS ∷ (n ++ (GS ∷ (payload ++ (RS ∷ left))))))))
-    regrouped t c n payload left = simp append-assoc
+    regrouped : (vs n payload left : Bytes) → (vs ++ (n ++ (GS ∷ payload))) ++ (RS ∷ left) ≡ vs ++ (n ++ (GS ∷ (payload ++ (RS ∷ left))))
+    regrouped vs n payload left = simp append-assoc
 
 pub step-pass : (edition : Edition) (first : Bool) (e : Envelope) (left : Bytes) → Within edition e → isRest e ≡ false → (first || not (isTransport e)) ≡ true
     → readEnvelope edition first (bytesOf (parts e) ++ (RS ∷ left)) ≡ closed e left
@@ -256,4 +281,4 @@ whole-pass edition (wholeRest f body) w is =
 whole-pass edition (segments f header ss) w is = absurd (false≢true is)
 whole-pass edition (elements f es) w is = absurd (false≢true is)
 whole-pass edition (text f body) w is = absurd (false≢true is)
-whole-pass edition (counted f t c n payload) w is = absurd (false≢true is)
+whole-pass edition (counted f vs n payload) w is = absurd (false≢true is)

@@ -2,7 +2,7 @@
 -- follows the reading: each test that was passed is a fact about the bytes, and at the end the facts are the envelope's rules.
 use Prim.Native.Nat.{ℕ, _+_, _<_}
 use mathlib.Core.Path.{_≡_, refl, sym, ap, _∙_, subst}
-use mathlib.Core.Bool.{Bool, true, false, not, _&&_, _||_, cond, true≢false}
+use mathlib.Core.Bool.{Bool, true, false, not, _&&_, _||_, cond, true≢false, false≢true}
 use mathlib.Core.Option.{Option, none, some}
 use mathlib.Core.List.{List, [], _∷_, _++_, map, append-assoc}
 use native.Mathlib.Omega.{arith}
@@ -11,12 +11,13 @@ use borrow.Author.Tests.{ltb-true, eqb-true}
 use lib.ListN.{length, getD, take, drop, take-append-drop}
 use lib.Seq.{split-at, length-take-le, drop-append-seam}
 use lib.Dec.{ltb, eqb}
+use Rattle.label.specs.declared.Limit.{Limit}
 use Rattle.label.specs.declared.Reason.{Reason}
 use Rattle.label.specs.declared.Reason.the-variants.{TooLong, NoMessageHeader, NoIndicator, NoTrailer, BytesAfterTrailer, UnknownFormat, NotFirst, BadFormatHeader, PayloadDoesNotFit, ByteNotPermitted, BodyBreaksRules, NoRecordSeparator, TooManyRows, NoRoom, BadFieldCount, FieldTooShort, FieldTooLong, BadFieldBytes}
 use Rattle.label.specs.declared.BodyFault.{BodyFault}
 use Rattle.label.specs.Bytes.{Bytes, FS, GS, RS, US, plain, digit, every, isEmpty, sameBytes}
 use Rattle.label.specs.Pieces.{pieces, lastIsEmpty, Cut, found, absent, cut}
-use Rattle.label.specs.Values.{Version, version02, version96, versionDigits, releaseLength, release, payloadType, compression, count, value}
+use Rattle.label.specs.Values.{Version, version02, version96, versionDigits, releaseLength, release, headerValue, headerValues, count, value}
 use Rattle.label.specs.Segments.{tagged}
 use Rattle.label.specs.Fields.{transport}
 use Rattle.label.specs.Faults.{fieldsFaultBy, fieldsFault, elementsFault, wholeFault}
@@ -26,12 +27,12 @@ use Rattle.label.specs.Layout.{bytesOf}
 use Rattle.label.specs.Envelope.{Envelope, fields, wholeRest, segments, elements, text, counted, Within}
 use Rattle.label.specs.Written.{pieceRow, twoDigits, parts}
 use Rattle.label.specs.Message.{isTransport, isRest}
-use Rattle.label.specs.ReadEnvelope.{Step, closed, whole, refuse, refuseAt, must, opened, valuedAt, valued, broken, bodyAt, bodied, plainOrGS, versionOf, readFields, readTransport, readRest, segmentByte, segmentsIn, areSegments, readSegments, readElements, readText, readPayload, readCounted, readBy, readEnvelope}
+use Rattle.label.specs.ReadEnvelope.{Step, closed, whole, refuse, refuseAt, must, opened, valuedAt, valued, broken, bodyAt, bodied, plainOrGS, versionOf, readFields, readTransport, readRest, segmentByte, segmentsIn, areSegments, readSegments, readElements, readText, readPayload, readValues, readCount, readCounted, readBy, readEnvelope}
 use Rattle.label.specs.Lacking.{aheadOfField, aheadOfElement, FaultIn}
 use Rattle.label.specs.Promised.{judgedWhole}
-use Rattle.label.proofs.Tests.{both, or-left, or-not, same-bytes, not-true}
+use Rattle.label.proofs.Tests.{both, or-left, or-not, same-bytes, not-true, and-both}
 use Rattle.label.proofs.Splitting.{joined, terminated, joined-pieces, pieces-some, CutSo, cut-so, every-pieces}
-use Rattle.label.proofs.Laid.{segmentBytes, contentBytes, formatOf, bytes-each-ended, bytes-envelope}
+use Rattle.label.proofs.Laid.{segmentBytes, valueBytes, contentBytes, formatOf, bytes-each-ended, bytes-envelope}
 use Rattle.label.proofs.Faults.{Ahead, elements-fault-so, elements-ahead, fields-fault-so, fields-ahead}
 use Rattle.label.proofs.SegmentLaws.{segments-back, plain-segments}
 use Rattle.label.proofs.Digits.{digits-two}
@@ -79,6 +80,14 @@ module _ (Claim : Step → Type 0) (refusal : (r : Reason) → BeforeRules r →
 
   valued-so : (test : Bytes → Bool) (bs : Bytes) (next : Bytes → Bytes → Step) → ((v rest : Bytes) → bs ≡ v ++ (GS ∷ rest) → test v ≡ true → Claim (next v rest)) → Claim (valued test bs next)
   valued-so test bs next h = cut-claim GS bs (valuedAt test next) (refusal _ tt) (λ v rest e. must-so (test v) _ _ (refusal _ tt) (h v rest e))
+
+  values-so : (limits : List Limit) (bs : Bytes) (next : List Bytes → Bytes → Step)
+      → ((vs : List Bytes) (rest : Bytes) → bs ≡ terminated GS vs ++ rest → headerValues limits vs ≡ true → Claim (next vs rest)) → Claim (readValues limits bs next)
+  values-so [] bs next h = h [] bs refl refl
+  values-so (l ∷ ls) bs next h =
+      valued-so (headerValue l) bs _ λ v rest e isValue.
+      values-so ls rest (λ vs. next (v ∷ vs)) λ vs left e′ are.
+      h (v ∷ vs) left (e ∙ ap (λ x. v ++ (GS ∷ x)) e′ ∙ sym (append-assoc v (GS ∷ terminated GS vs) left)) (and-both isValue are)
 
   bodied-so : (permitted : ℕ → Bool) (rules : Bytes → Bool) (fault : Bytes → BodyFault) (made : Bytes → Envelope) (bs : Bytes)
       → ((body left : Bytes) → bs ≡ body ++ (RS ∷ left) → every permitted body ≡ true → rules body ≡ false → Claim (broken bs (fault body)))
@@ -149,11 +158,6 @@ version-so bs v h = by-tests (sameBytes bs (versionDigits version02)) (sameBytes
 -- a payload of n bytes with RS behind it
 payload-at : (n : ℕ) (bs : Bytes) → n < length bs → getD bs n 0 ≡ RS → bs ≡ take n bs ++ (RS ∷ drop (n + 1) bs)
 payload-at n bs short is = split-at bs n 0 short ∙ (λ i. take n bs ++ (is i ∷ drop (sym (add-one n) i) bs))
-
--- the header values of 09 one behind the other
-header-so : (t c n payload left bs bs₁ bs₂ bs₃ bs₄ : Bytes) → bs ≡ GS ∷ bs₁ → bs₁ ≡ t ++ (GS ∷ bs₂) → bs₂ ≡ c ++ (GS ∷ bs₃) → bs₃ ≡ n ++ (GS ∷ bs₄) → bs₄ ≡ payload ++ (RS ∷ left)
-    → bs ≡ (GS ∷ (t ++ (GS ∷ (c ++ (GS ∷ (n ++ (GS ∷ payload))))))) ++ (RS ∷ left)
-header-so t c n payload left bs bs₁ bs₂ bs₃ bs₄ e₀ e₁ e₂ e₃ e₄ = rw (e₀, e₁, e₂, e₃, e₄) (simp append-assoc)
 
 record AreSegments (isTag : Bytes → Bool) (body : Bytes) : Type 0 where
   lastEmpty : lastIsEmpty (pieces FS body) ≡ true
@@ -286,23 +290,38 @@ module _ (edition : Edition) (first : Bool) where
           fields-so f v bs (drop 2 after) known isFirst
           (opens ∙ ap (λ x. GS ∷ x) (sym (take-append-drop 2 after) ∙ ap (λ x. x ++ drop 2 after) (version-so (take 2 after) v e)))
 
-  counted-so : (f : ℕ) (bs : Bytes) → ruleOf edition f ≡ asCounted → After f bs (readCounted f bs)
-  unfolding readCounted readPayload
-  counted-so f bs known =
-      opened-so (After f bs) before (GS ∷ []) bs _ λ bs₁ e₀.
-      valued-so (After f bs) before payloadType bs₁ _ λ t bs₂ e₁ isType.
-      valued-so (After f bs) before compression bs₂ _ λ c bs₃ e₂ isCompression.
-      valued-so (After f bs) before count bs₃ _ λ n bs₄ e₃ isCount.
-      must-so (After f bs) before (ltb (value n) (length bs₄) && eqb (getD bs₄ (value n) 0) RS) _ _ (beforeRules tt) λ fits.
-      let k = both (ltb (value n) (length bs₄)) (eqb (getD bs₄ (value n) 0) RS) fits in
-      let short = ltb-true (value n) (length bs₄) (k .left) in
+  -- the count and the payload, behind header values
+  count-so : (f : ℕ) (limits : List Limit) (vs : List Bytes) (bs after : Bytes) → ruleOf edition f ≡ asCounted limits → headerValues limits vs ≡ true → bs ≡ valueBytes vs ++ after → After f bs (readCount f vs after)
+  unfolding readCount readPayload
+  count-so f limits vs bs after known are opens =
+      valued-so (After f bs) before count after _ λ n rest e isCount.
+      must-so (After f bs) before (ltb (value n) (length rest) && eqb (getD rest (value n) 0) RS) _ _ (beforeRules tt) λ fits.
+      let k = both (ltb (value n) (length rest)) (eqb (getD rest (value n) 0) RS) fits in
+      let short = ltb-true (value n) (length rest) (k .left) in
       record {
-        within = record { known = known; isType = isType; isCompression = isCompression; isCount = isCount; counts = sym (length-take-le (value n) bs₄ (omega arith)) };
+        within = record { limits = limits; known = known; areValues = are; isCount = isCount; counts = sym (length-take-le (value n) rest (omega arith)) };
         notRest = refl;
         inPlace = or-true first;
-        bytes = bytes-closed (counted f t c n (take (value n) bs₄)) bs (drop (value n + 1) bs₄)
-            (header-so t c n (take (value n) bs₄) (drop (value n + 1) bs₄) bs bs₁ bs₂ bs₃ bs₄ e₀ e₁ e₂ e₃ (payload-at (value n) bs₄ short (eqb-true _ _ (k .right))));
+        bytes = bytes-closed (counted f vs n (take (value n) rest)) bs (drop (value n + 1) rest)
+            (opens
+            ∙ ap (λ x. valueBytes vs ++ x) (e ∙ ap (λ x. n ++ (GS ∷ x)) (payload-at (value n) rest short (eqb-true _ _ (k .right))))
+            ∙ regrouped (valueBytes vs) n (take (value n) rest) (drop (value n + 1) rest));
       }
+    where
+      regrouped : (vs n payload left : Bytes) → vs ++ (n ++ (GS ∷ (payload ++ (RS ∷ left)))) ≡ (vs ++ (n ++ (GS ∷ payload))) ++ (RS ∷ left)
+      regrouped vs n payload left = simp append-assoc
+
+  counted-so : (limits : List Limit) (f : ℕ) (bs : Bytes) → ruleOf edition f ≡ asCounted limits → After f bs (readCounted limits f bs)
+  unfolding readCounted
+  counted-so [] f bs known = count-so f [] [] bs bs known refl refl
+  counted-so (l ∷ ls) f bs known =
+      opened-so (After f bs) before (GS ∷ []) bs _ λ after opens.
+      values-so (After f bs) before (l ∷ ls) after (readCount f) λ vs rest e are.
+      by after rest opens vs e are
+    where
+      by : (after rest : Bytes) → bs ≡ GS ∷ after → (vs : List Bytes) → after ≡ terminated GS vs ++ rest → headerValues (l ∷ ls) vs ≡ true → After f bs (readCount f vs rest)
+      by after rest opens [] e are = absurd (false≢true are)
+      by after rest opens (v ∷ vs) e are = count-so f (l ∷ ls) (v ∷ vs) bs rest known are (opens ∙ ap (λ x. GS ∷ x) e)
 
   segments-so : (isTag : Bytes → Bool) (f : ℕ) (bs : Bytes) → ruleOf edition f ≡ asSegments isTag → After f bs (readSegments isTag f bs)
   unfolding readSegments
@@ -330,7 +349,7 @@ module _ (edition : Edition) (first : Bool) where
   by-so (asSegments isTag) f bs known = segments-so isTag f bs known
   by-so (asElements isElement) f bs known = elements-so isElement f bs known
   by-so (asText permitted) f bs known = text-so permitted f bs known
-  by-so asCounted f bs known = counted-so f bs known
+  by-so (asCounted limits) f bs known = counted-so limits f bs known
   by-so unknown f bs known = beforeRules tt
 
 -- what is answered where an envelope is due

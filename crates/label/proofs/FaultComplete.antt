@@ -82,4 +82,4 @@ fault-pass edition first (elements f es) left r ahead w inPlace =
       bytes = ap length written ∙ omega (arith, offset-inside (joined GS es) left (w .front) a, ap length (w .inFrontOfIt ∙ ap (λ x. twoDigits f ++ (GS ∷ x)) (bytes-each-ended GS pieceRow f (w .front))));
     }
 fault-pass edition first (text f body) left r ahead w inPlace = absurd w
-fault-pass edition first (counted f t c n payload) left r ahead w inPlace = absurd w
+fault-pass edition first (counted f vs n payload) left r ahead w inPlace = absurd w

@@ -52,7 +52,7 @@ module _ (edition : Edition) where
       by : ElementsLack (w .isElement) es (w .front) r → (isTransport (elements f es) ≡ true) ⊎ (r ≡ BodyBreaksRules)
       by (atElement why faultless e more list faulty) = inr why
   transport-or-11 (text f body) r ahead w = absurd w
-  transport-or-11 (counted f t c n payload) r ahead w = absurd w
+  transport-or-11 (counted f vs n payload) r ahead w = absurd w
 
   -- the format of an envelope with an 11 in it isn't 01
   piece-not-01 : (e : Envelope) (ahead left : Bytes) → FaultIn edition e BodyBreaksRules ahead → (f : ℕ) (after : Bytes) → bytesOf (parts e) ++ (RS ∷ left) ≡ twoDigits f ++ after → ruleOf edition f ≡ asFields → ⊥
@@ -64,7 +64,7 @@ module _ (edition : Edition) where
       let z : _≡_ {A = ℕ} 0 1 = cc (ap (ruleOf edition) same, w .known, known) in
       omega arith
   piece-not-01 (text g body) ahead left w f after bytes known = w
-  piece-not-01 (counted g t c n payload) ahead left w f after bytes known = w
+  piece-not-01 (counted g vs n payload) ahead left w f after bytes known = w
 
   -- 11 at the indicator is a format's that is judged as a whole
   whole-so : (rest : Bytes) → RefusedSo edition rest BodyBreaksRules → (f : ℕ) (after : Bytes) → rest ≡ twoDigits f ++ after → judgedWhole (ruleOf edition f) ≡ true

@@ -7,7 +7,7 @@ use Rattle.label.specs.Values.{versionDigits}
 use Rattle.label.specs.Segments.{Element, Segment}
 use Rattle.label.specs.Layout.{Part, mark, item, marks, bytesOf, further, separated, ended}
 use Rattle.label.specs.Envelope.{Envelope, fields, wholeRest, segments, elements, text, counted}
-use Rattle.label.specs.Written.{rowedEach, twoDigits, elementRow, subElementRow, tagRow, pieceRow, elementParts, segmentParts, parts}
+use Rattle.label.specs.Written.{rowedEach, twoDigits, elementRow, subElementRow, tagRow, pieceRow, elementParts, segmentParts, parts, valueParts, valueRow, rowed, bodyRow}
 use Rattle.label.proofs.Splitting.{behind, joined, terminated}
 
 pub bytes-append : (ps qs : List Part) → bytesOf (ps ++ qs) ≡ bytesOf ps ++ bytesOf qs
@@ -64,6 +64,15 @@ bytes-segments : (f : ℕ) (ss : List Segment) → map bytesOf (map (segmentPart
 bytes-segments f [] = refl
 bytes-segments f (s ∷ ss) = λ i. bytes-segment f s i ∷ bytes-segments f ss i
 
+-- the header values in front of a count
+abbrev pub valueBytes : List Bytes → Bytes
+valueBytes [] = []
+valueBytes (v ∷ vs) = GS ∷ terminated GS (v ∷ vs)
+
+bytes-values : (f : ℕ) (vs : List Bytes) → bytesOf (valueParts f vs) ≡ valueBytes vs
+bytes-values f [] = refl
+bytes-values f (v ∷ vs) = ap (λ r. GS ∷ r) (bytes-each-ended GS valueRow f (v ∷ vs))
+
 -- an envelope's header and body
 abbrev pub contentBytes : Envelope → Bytes
 contentBytes (fields f v fs) = GS ∷ (versionDigits v ++ joined GS fs)
@@ -71,7 +80,7 @@ contentBytes (wholeRest f body) = body
 contentBytes (segments f header ss) = header ++ (FS ∷ (GS ∷ (US ∷ terminated FS (map segmentBytes ss))))
 contentBytes (elements f es) = GS ∷ joined GS es
 contentBytes (text f body) = body
-contentBytes (counted f t c n payload) = GS ∷ (t ++ (GS ∷ (c ++ (GS ∷ (n ++ (GS ∷ payload))))))
+contentBytes (counted f vs n payload) = valueBytes vs ++ (n ++ (GS ∷ payload))
 
 -- its format
 abbrev pub formatOf : Envelope → ℕ
@@ -80,7 +89,7 @@ formatOf (wholeRest f body) = f
 formatOf (segments f header ss) = f
 formatOf (elements f es) = f
 formatOf (text f body) = f
-formatOf (counted f t c n payload) = f
+formatOf (counted f vs n payload) = f
 
 -- an envelope is written as its indicator, header and body
 pub bytes-envelope : (e : Envelope) → bytesOf (parts e) ≡ twoDigits (formatOf e) ++ contentBytes e
@@ -91,4 +100,7 @@ bytes-envelope (segments f header ss) =
     ap (λ r. twoDigits f ++ (header ++ (FS ∷ (GS ∷ (US ∷ r))))) (bytes-ended FS (map (segmentParts f) ss) ∙ ap (terminated FS) (bytes-segments f ss))
 bytes-envelope (elements f es) = ap (λ r. twoDigits f ++ (GS ∷ r)) (bytes-pieces GS pieceRow f es)
 bytes-envelope (text f body) = ap (λ r. twoDigits f ++ r) (append-nil body)
-bytes-envelope (counted f t c n payload) = ap (λ r. twoDigits f ++ (GS ∷ (t ++ (GS ∷ (c ++ (GS ∷ (n ++ (GS ∷ r)))))))) (append-nil payload)
+bytes-envelope (counted f vs n payload) =
+    ap (λ r. twoDigits f ++ r)
+    (bytes-append (valueParts f vs) (rowed valueRow f n ∷ mark GS ∷ rowed bodyRow f payload ∷ [])
+    ∙ (λ i. bytes-values f vs i ++ (n ++ (GS ∷ append-nil payload i))))

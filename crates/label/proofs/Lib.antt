@@ -31,3 +31,4 @@ pub mod Parts
 pub mod Composing
 pub mod Promises
 pub mod WriterPromises
+pub mod BothEditions

@@ -12,7 +12,7 @@ use Rattle.label.specs.Bytes.{Bytes, EOT, FS, GS, RS, US, every}
 use Rattle.label.specs.Layout.{Item, Part, mark, item, marks, Row, itemsOf, rowsFrom, separated, further, ended}
 use Rattle.label.specs.Segments.{Element, Segment}
 use Rattle.label.specs.Envelope.{Envelope, fields, wholeRest, segments, elements, text, counted}
-use Rattle.label.specs.Written.{indicatorRow, valueRow, pieceRow, tagRow, elementRow, subElementRow, bodyRow, rowed, rowedEach, indicator, elementParts, segmentParts, parts}
+use Rattle.label.specs.Written.{indicatorRow, valueRow, pieceRow, tagRow, elementRow, subElementRow, bodyRow, rowed, rowedEach, indicator, elementParts, segmentParts, parts, valueParts}
 use Rattle.label.specs.Message.{header, isRestAlone, messageParts, rowsOf, ordinalsFrom, ordinalsOf}
 use Rattle.label.specs.ReadMessage.{Outcome, read, refused}
 use Rattle.label.specs.Answer.{rowsRead, ordinalsRead}
@@ -77,6 +77,10 @@ others-segment f (e ∷ es) =
     others-append (elementParts tagRow f e) (further GS (map (elementParts elementRow f) es)) (others-element tagRow f refl e)
     (others-further GS (map (elementParts elementRow f) es) (others-runs (elementParts elementRow f) (others-element elementRow f refl) es))
 
+others-values : (f : ℕ) (vs : List Bytes) → others (valueParts f vs) ≡ true
+others-values f [] = refl
+others-values f (v ∷ vs) = others-ended GS (rowedEach valueRow f (v ∷ vs)) (others-each valueRow f refl (v ∷ vs))
+
 -- the items of an envelope: an indicator, and others
 record OneIndicator (is : List Item) : Type 0 where
   first : Item
@@ -92,7 +96,8 @@ one-indicator (wholeRest f body) = record { first = _; rest = _; so = refl; indi
 one-indicator (segments f r ss) = record { first = _; rest = _; so = refl; indicates = refl; no-others = others-ended FS (map (segmentParts f) ss) (others-runs (segmentParts f) (others-segment f) ss) }
 one-indicator (elements f es) = record { first = _; rest = _; so = refl; indicates = refl; no-others = others-separated GS (rowedEach pieceRow f es) (others-each pieceRow f refl es) }
 one-indicator (text f body) = record { first = _; rest = _; so = refl; indicates = refl; no-others = refl }
-one-indicator (counted f t c n payload) = record { first = _; rest = _; so = refl; indicates = refl; no-others = refl }
+one-indicator (counted f vs n payload) =
+    record { first = _; rest = _; so = refl; indicates = refl; no-others = others-append (valueParts f vs) _ (others-values f vs) refl }
 
 -- Counting
 

@@ -10,7 +10,7 @@ use Rattle.label.specs.Limits.{longest, mostRows}
 use Rattle.label.specs.declared.Edition.{Edition}
 use Rattle.label.specs.Layout.{Part, mark, item, marks, Row, bytesOf, itemsOf, rowAt, rowsFrom, separated, ended}
 use Rattle.label.specs.Envelope.{Envelope, counted, Within}
-use Rattle.label.specs.Written.{rowed, indicator, valueRow, bodyRow, parts}
+use Rattle.label.specs.Written.{rowed, indicator, valueRow, bodyRow, parts, valueParts}
 use Rattle.label.specs.Message.{header, isTransport, isRest, isRestAlone, transportOnlyFirst, messageParts, message, rowsOf, ordinalsFrom, ordinalsOf, Each, Good}
 use Rattle.label.specs.Promised.{with-payload, Freed}
 use Rattle.label.proofs.Laid.{bytes-append}
@@ -25,9 +25,9 @@ rows-append at (item i ∷ ps) qs =
     ∙ ap (λ n. rowsFrom (at + length (i .content)) ps ++ rowsFrom n qs) (omega (arith, length-append (i .content) (bytesOf ps))))
 
 -- the parts before and behind a payload
-module _ (before after : List Envelope) (f : ℕ) (t c n : Bytes) where
+module _ (before after : List Envelope) (f : ℕ) (vs : List Bytes) (n : Bytes) where
   abbrev pub front : List Part
-  front = marks header ++ (ended RS (map parts before) ++ (indicator f ∷ mark GS ∷ rowed valueRow f t ∷ mark GS ∷ rowed valueRow f c ∷ mark GS ∷ rowed valueRow f n ∷ mark GS ∷ []))
+  front = marks header ++ (ended RS (map parts before) ++ (indicator f ∷ (valueParts f vs ++ (rowed valueRow f n ∷ mark GS ∷ []))))
 
   abbrev pub back : List Part
   back = mark RS ∷ (ended RS (map parts after) ++ (mark EOT ∷ []))
@@ -58,61 +58,68 @@ some-append : {A : Type 0} (xs ys : List A) (y : A) → isEmpty (xs ++ (y ∷ ys
 some-append [] ys y = refl
 some-append (x ∷ xs) ys y = refl
 
-module _ (before after : List Envelope) (f : ℕ) (t c n : Bytes) where
-  parts-around : (payload : Bytes) → messageParts (with-payload before after f t c n payload) ≡ front before after f t c n ++ (rowed bodyRow f payload ∷ back before after f t c n)
+module _ (before after : List Envelope) (f : ℕ) (vs : List Bytes) (n : Bytes) where
+  parts-around : (payload : Bytes) → messageParts (with-payload before after f vs n payload) ≡ front before after f vs n ++ (rowed bodyRow f payload ∷ back before after f vs n)
   unfolding messageParts parts
   parts-around payload =
-      let e = counted f t c n payload in
+      let e = counted f vs n payload in
       ap (λ b. marks header ++ cond b (separated RS (map parts (before ++ (e ∷ after)))) (ended RS (map parts (before ++ (e ∷ after))) ++ (mark EOT ∷ []))) (not-alone before after e refl)
       ∙ ap (λ r. marks header ++ (r ++ (mark EOT ∷ []))) (ended-append before (e ∷ after))
       ∙ simp append-assoc
 
-  bytes-around : (payload : Bytes) → message (with-payload before after f t c n payload) ≡ bytesOf (front before after f t c n) ++ (payload ++ bytesOf (back before after f t c n))
+  bytes-around : (payload : Bytes) → message (with-payload before after f vs n payload) ≡ bytesOf (front before after f vs n) ++ (payload ++ bytesOf (back before after f vs n))
   unfolding message
-  bytes-around payload = ap bytesOf (parts-around payload) ∙ bytes-append (front before after f t c n) (rowed bodyRow f payload ∷ back before after f t c n)
+  bytes-around payload = ap bytesOf (parts-around payload) ∙ bytes-append (front before after f vs n) (rowed bodyRow f payload ∷ back before after f vs n)
 
   -- the payload's own row, and those before and behind it
-  pub rows-around : (payload : Bytes) → rowsOf (with-payload before after f t c n payload)
-      ≡ rowsFrom 0 (front before after f t c n)
-      ++ (rowAt (length (bytesOf (front before after f t c n))) (record { kind = bodyRow; format = f; content = payload })
-      ∷ rowsFrom (length (bytesOf (front before after f t c n)) + length payload) (back before after f t c n))
+  pub rows-around : (payload : Bytes) → rowsOf (with-payload before after f vs n payload)
+      ≡ rowsFrom 0 (front before after f vs n)
+      ++ (rowAt (length (bytesOf (front before after f vs n))) (record { kind = bodyRow; format = f; content = payload })
+      ∷ rowsFrom (length (bytesOf (front before after f vs n)) + length payload) (back before after f vs n))
   unfolding rowsOf
   rows-around payload =
       ap (rowsFrom 0) (parts-around payload)
-      ∙ rows-append 0 (front before after f t c n) (rowed bodyRow f payload ∷ back before after f t c n)
-      ∙ ap (λ k. rowsFrom 0 (front before after f t c n) ++ rowsFrom k (rowed bodyRow f payload ∷ back before after f t c n)) (omega arith)
+      ∙ rows-append 0 (front before after f vs n) (rowed bodyRow f payload ∷ back before after f vs n)
+      ∙ ap (λ k. rowsFrom 0 (front before after f vs n) ++ rowsFrom k (rowed bodyRow f payload ∷ back before after f vs n)) (omega arith)
 
   module _ (payload payload′ : Bytes) (same : length payload′ ≡ length payload) where
-    same-rows : rowsOf (with-payload before after f t c n payload′) ≡ rowsOf (with-payload before after f t c n payload)
+    same-rows : rowsOf (with-payload before after f vs n payload′) ≡ rowsOf (with-payload before after f vs n payload)
     same-rows =
         rows-around payload′
-        ∙ ap (λ k. rowsFrom 0 (front before after f t c n)
-        ++ (record { kind = bodyRow; format = f; start = length (bytesOf (front before after f t c n)); length = k }
-        ∷ rowsFrom (length (bytesOf (front before after f t c n)) + k) (back before after f t c n))) same
+        ∙ ap (λ k. rowsFrom 0 (front before after f vs n)
+        ++ (record { kind = bodyRow; format = f; start = length (bytesOf (front before after f vs n)); length = k }
+        ∷ rowsFrom (length (bytesOf (front before after f vs n)) + k) (back before after f vs n))) same
         ∙ sym (rows-around payload)
 
-    same-ordinals : ordinalsOf (with-payload before after f t c n payload′) ≡ ordinalsOf (with-payload before after f t c n payload)
+    same-ordinals : ordinalsOf (with-payload before after f vs n payload′) ≡ ordinalsOf (with-payload before after f vs n payload)
     unfolding ordinalsOf parts
     same-ordinals = from 0 before
       where
-        from : (o : ℕ) (before : List Envelope) → ordinalsFrom o (with-payload before after f t c n payload′) ≡ ordinalsFrom o (with-payload before after f t c n payload)
-        from o [] = refl
+        -- one ordinal for each item, whatever the last one's content
+        of-each : (o : ℕ) (ps : List Part) → map (λ i. o) (itemsOf (ps ++ (rowed valueRow f n ∷ mark GS ∷ rowed bodyRow f payload′ ∷ [])))
+            ≡ map (λ i. o) (itemsOf (ps ++ (rowed valueRow f n ∷ mark GS ∷ rowed bodyRow f payload ∷ [])))
+        of-each o [] = refl
+        of-each o (mark b ∷ ps) = of-each o ps
+        of-each o (item i ∷ ps) = ap (λ os. o ∷ os) (of-each o ps)
+
+        from : (o : ℕ) (before : List Envelope) → ordinalsFrom o (with-payload before after f vs n payload′) ≡ ordinalsFrom o (with-payload before after f vs n payload)
+        from o [] = ap (λ os. o ∷ (os ++ ordinalsFrom (o + 1) after)) (of-each o (valueParts f vs))
         from o (e ∷ before) = ap (λ os. map (λ i. o) (itemsOf (parts e)) ++ os) (from (o + 1) before)
 
-    same-length : length (message (with-payload before after f t c n payload′)) ≡ length (message (with-payload before after f t c n payload))
+    same-length : length (message (with-payload before after f vs n payload′)) ≡ length (message (with-payload before after f vs n payload))
     same-length =
-        let F = bytesOf (front before after f t c n) in
-        let B = bytesOf (back before after f t c n) in
+        let F = bytesOf (front before after f vs n) in
+        let B = bytesOf (back before after f vs n) in
         omega (arith, ap length (bytes-around payload), ap length (bytes-around payload′), length-append F (payload ++ B), length-append F (payload′ ++ B), length-append payload B, length-append payload′ B)
 
-    still-within : (edition : Edition) → Within edition (counted f t c n payload) → Within edition (counted f t c n payload′)
-    still-within edition w = record { known = w .known; isType = w .isType; isCompression = w .isCompression; isCount = w .isCount; counts = w .counts ∙ sym same }
+    still-within : (edition : Edition) → Within edition (counted f vs n payload) → Within edition (counted f vs n payload′)
+    still-within edition w = record { limits = w .limits; known = w .known; areValues = w .areValues; isCount = w .isCount; counts = w .counts ∙ sym same }
 
-    still-good : (edition : Edition) (m : Bytes) → Good edition m (with-payload before after f t c n payload)
-        → Good edition (message (with-payload before after f t c n payload′)) (with-payload before after f t c n payload′)
+    still-good : (edition : Edition) (m : Bytes) → Good edition m (with-payload before after f vs n payload)
+        → Good edition (message (with-payload before after f vs n payload′)) (with-payload before after f vs n payload′)
     still-good edition m good =
-        let x = counted f t c n payload in
-        let y = counted f t c n payload′ in
+        let x = counted f vs n payload in
+        let y = counted f vs n payload′ in
         record {
           oneOrMore = some-append before after y;
           within = each-swap (Within edition) before after x y (good .within) (still-within edition);
@@ -124,12 +131,12 @@ module _ (before after : List Envelope) (f : ℕ) (t c n : Bytes) where
           writesOut = refl;
         }
 
-    pub freed : (edition : Edition) (m : Bytes) → Good edition m (with-payload before after f t c n payload) → Freed before after f t c n payload payload′ edition m
+    pub freed : (edition : Edition) (m : Bytes) → Good edition m (with-payload before after f vs n payload) → Freed before after f vs n payload payload′ edition m
     freed edition m good = record {
-      around = bytesOf (front before after f t c n);
-      behind = bytesOf (back before after f t c n);
+      around = bytesOf (front before after f vs n);
+      behind = bytesOf (back before after f vs n);
       stood = sym (good .writesOut) ∙ bytes-around payload;
-      good = subst (λ (x : Bytes). Good edition x (with-payload before after f t c n payload′)) (bytes-around payload′) (still-good edition m good);
+      good = subst (λ (x : Bytes). Good edition x (with-payload before after f vs n payload′)) (bytes-around payload′) (still-good edition m good);
       envelopes = length-append before _ ∙ sym (length-append before _);
       rows = same-rows;
       ordinals = same-ordinals;

@@ -103,7 +103,7 @@ fault-reason edition (elements f es) r ahead w = by (w .fault)
     by : ElementsLack (w .isElement) es (w .front) r → OfPiece r
     by (atElement why faultless e more list faulty) = subst OfPiece (sym why) tt
 fault-reason edition (text f body) r ahead w = absurd w
-fault-reason edition (counted f t c n payload) r ahead w = absurd w
+fault-reason edition (counted f vs n payload) r ahead w = absurd w
 
 piece-place : (edition : Edition) (m : Bytes) (r : Reason) (p : ℕ) → AtPiece edition m r p → PlaceFor edition m r p
 piece-place edition m r p at = by r (fault-reason edition (at .envelope) r (at .ahead) (at .fault)) at

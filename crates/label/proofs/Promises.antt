@@ -105,14 +105,14 @@ module _ (edition : Edition) (m : Bytes) where
   row-in-no-other es r o o′ one two = in-no-other m es r o o′ one two
 
   -- Demand 3: another payload of equal length in format 09 gives a good message and changes no row and no ordinal, whichever envelope it is in
-  pub payload-is-free : (before after : List Envelope) (f : ℕ) (t c n payload payload′ : Bytes) (same : length payload′ ≡ length payload)
-      → Good edition m (before ++ (counted f t c n payload ∷ after)) → Freed before after f t c n payload payload′ edition m
-  payload-is-free before after f t c n payload payload′ same good = freed before after f t c n payload payload′ same edition m good
+  pub payload-is-free : (before after : List Envelope) (f : ℕ) (vs : List Bytes) (n payload payload′ : Bytes) (same : length payload′ ≡ length payload)
+      → Good edition m (before ++ (counted f vs n payload ∷ after)) → Freed before after f vs n payload payload′ edition m
+  payload-is-free before after f vs n payload payload′ same good = freed before after f vs n payload payload′ same edition m good
 
   -- nor the answer, nor any number of any table
-  pub payload-changes-nothing : (before after : List Envelope) (f : ℕ) (t c n payload payload′ : Bytes) → Good edition m (before ++ (counted f t c n payload ∷ after))
-      → (new : Freed before after f t c n payload payload′ edition m) → Alike edition m (new-message before after f t c n payload payload′ edition m new)
-  payload-changes-nothing before after f t c n payload payload′ good new =
+  pub payload-changes-nothing : (before after : List Envelope) (f : ℕ) (vs : List Bytes) (n payload payload′ : Bytes) → Good edition m (before ++ (counted f vs n payload ∷ after))
+      → (new : Freed before after f vs n payload payload′ edition m) → Alike edition m (new-message before after f vs n payload payload′ edition m new)
+  payload-changes-nothing before after f vs n payload payload′ good new =
       alike edition m _ _ _ (reading-pass edition m _ good) (reading-pass edition _ _ (new .good)) (new .envelopes) (new .rows) (new .ordinals)
 
   -- The answer for every message and every room, both ways

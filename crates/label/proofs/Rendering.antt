@@ -7,14 +7,15 @@ use mathlib.Core.List.{List, [], _∷_, _++_, map, append-assoc}
 use native.Mathlib.Omega.{arith}
 use borrow.Author.Tests.{le-leb, ne-eqb}
 use lib.ListN.{drop}
+use Rattle.label.specs.declared.Limit.{Limit}
 use Rattle.label.specs.Bytes.{Bytes, EOT, FS, GS, RS, US, every, isEmpty}
-use Rattle.label.specs.Values.{versionDigits}
+use Rattle.label.specs.Values.{versionDigits, headerValues}
 use Rattle.label.specs.Segments.{Element, Segment, tagged}
 use Rattle.label.specs.declared.Edition.{Edition}
-use Rattle.label.specs.Formats.{widest, ruleOf}
+use Rattle.label.specs.Formats.{asCounted, widest, ruleOf}
 use Rattle.label.specs.Layout.{Part, mark, marks, bytesOf, itemsOf, further, separated, ended}
 use Rattle.label.specs.Envelope.{Envelope, fields, wholeRest, segments, elements, text, counted, plainElement, Within}
-use Rattle.label.specs.Written.{indicatorRow, valueRow, pieceRow, tagRow, elementRow, subElementRow, bodyRow, rowed, rowedEach, twoDigits, indicator, elementParts, segmentParts, parts}
+use Rattle.label.specs.Written.{indicatorRow, valueRow, pieceRow, tagRow, elementRow, subElementRow, bodyRow, rowed, rowedEach, twoDigits, indicator, elementParts, segmentParts, valueParts, parts}
 use Rattle.label.specs.Message.{header, isRest, isRestAlone, messageParts, message, Each, Good}
 use Rattle.label.specs.Rendered.{beforeValue, closing, marksBetween, ending, renderedAfter, rendered}
 use Rattle.label.proofs.Tests.{both, and-both, not-true}
@@ -36,7 +37,7 @@ begins (wholeRest f body) = refl
 begins (segments f h ss) = refl
 begins (elements f es) = refl
 begins (text f body) = refl
-begins (counted f t c n payload) = refl
+begins (counted f vs n payload) = refl
 
 -- envelopes, each ended by RS, then EOT
 abbrev toEnd : List Envelope → List Part
@@ -126,6 +127,30 @@ module _ (edition : Edition) where
   segment-closes f rest behind p least most =
       subst (λ (t : Bool). Behind p f (marks (cond t (FS ∷ RS ∷ []) (RS ∷ [])) ++ rest)) (and-both (le-leb tagRow p least) (le-leb p subElementRow most)) (behind p)
 
+  -- header values, the count and the payload stand as they are rendered behind an indicator
+  module _ (f : ℕ) (n payload : Bytes) (rest : List Part) (behind : Behind bodyRow f (mark RS ∷ rest)) where
+    abbrev countParts : List Part
+    countParts = rowed valueRow f n ∷ mark GS ∷ rowed bodyRow f payload ∷ mark RS ∷ rest
+
+    count-behind : (p : ℕ) (ms : Bytes) → marksBetween (ruleOf widest f) p valueRow ≡ ms → Behind p f (marks ms ++ countParts)
+    unfolding marksBetween
+    count-behind p ms asked =
+        row-behind p f valueRow f ms n (mark GS ∷ rowed bodyRow f payload ∷ mark RS ∷ rest) asked (row-behind valueRow f bodyRow f (GS ∷ []) payload (mark RS ∷ rest) refl behind)
+
+    values-behind : ((p : ℕ) → marksBetween (ruleOf widest f) p valueRow ≡ GS ∷ []) → (p : ℕ) (v : Bytes) (vs : List Bytes)
+        → Behind p f (mark GS ∷ (ended GS (rowedEach valueRow f (v ∷ vs)) ++ countParts))
+    values-behind asked p v [] = row-behind p f valueRow f (GS ∷ []) v (mark GS ∷ countParts) (asked p) (count-behind valueRow (GS ∷ []) (asked valueRow))
+    values-behind asked p v (u ∷ us) =
+        row-behind p f valueRow f (GS ∷ []) v (mark GS ∷ (ended GS (rowedEach valueRow f (u ∷ us)) ++ countParts)) (asked p) (values-behind asked valueRow u us)
+
+  counted-behind : (f : ℕ) (limits : List Limit) (vs : List Bytes) (n payload : Bytes) (rest : List Part) → ruleOf widest f ≡ asCounted limits → headerValues limits vs ≡ true
+      → Behind bodyRow f (mark RS ∷ rest) → Behind indicatorRow f (valueParts f vs ++ (rowed valueRow f n ∷ mark GS ∷ rowed bodyRow f payload ∷ mark RS ∷ rest))
+  unfolding marksBetween
+  counted-behind f [] [] n payload rest known are behind = count-behind f n payload rest behind indicatorRow [] (ap beforeValue known)
+  counted-behind f [] (v ∷ vs) n payload rest known are behind = absurd (false≢true are)
+  counted-behind f (l ∷ ls) [] n payload rest known are behind = absurd (false≢true are)
+  counted-behind f (l ∷ ls) (v ∷ vs) n payload rest known are behind = values-behind f n payload rest behind (λ p. ap beforeValue known) indicatorRow v vs
+
   -- header and body of an envelope stand as they are rendered behind its indicator
   envelope-behind : (e : Envelope) (rest : List Part) → Within edition e → isRest e ≡ false → BehindEnvelope (formatOf e) rest
       → Behind indicatorRow (formatOf e) (inner e ++ (mark RS ∷ rest))
@@ -148,12 +173,9 @@ module _ (edition : Edition) where
   envelope-behind (elements f []) rest w closed behind = absurd (true≢false (w .oneOrMore))
   envelope-behind (elements f (p ∷ ps)) rest w closed behind = pieces-behind f indicatorRow (GS ∷ []) p ps (mark RS ∷ rest) refl (behind pieceRow)
   envelope-behind (text f body) rest w closed behind = row-behind indicatorRow f bodyRow f [] body (mark RS ∷ rest) refl (behind bodyRow)
-  envelope-behind (counted f t c n payload) rest w closed behind =
-      let body = mark GS ∷ rowed bodyRow f payload ∷ mark RS ∷ rest in
-      row-behind indicatorRow f valueRow f (GS ∷ []) t (mark GS ∷ rowed valueRow f c ∷ mark GS ∷ rowed valueRow f n ∷ body) (ap beforeValue (known-in-widest edition f _ (w .known) refl))
-      (row-behind valueRow f valueRow f (GS ∷ []) c (mark GS ∷ rowed valueRow f n ∷ body) (ap beforeValue (known-in-widest edition f _ (w .known) refl))
-      (row-behind valueRow f valueRow f (GS ∷ []) n body (ap beforeValue (known-in-widest edition f _ (w .known) refl))
-      (row-behind valueRow f bodyRow f (GS ∷ []) payload (mark RS ∷ rest) refl (behind bodyRow))))
+  envelope-behind (counted f vs n payload) rest w closed behind =
+      subst⁻¹ (Behind indicatorRow f) (append-assoc (valueParts f vs) (rowed valueRow f n ∷ mark GS ∷ rowed bodyRow f payload ∷ []) (mark RS ∷ rest))
+      (counted-behind f (w .limits) vs n payload rest (known-in-widest edition f _ (w .known) refl) (w .areValues) (behind bodyRow))
 
   -- the format of an envelope that doesn't take all the rest asks for the message's end
   ends : (e : Envelope) → Within edition e → isRest e ≡ false → (k : ℕ) → ending (ruleOf widest (formatOf e)) k ≡ closing k ++ (EOT ∷ [])
@@ -162,7 +184,7 @@ module _ (edition : Edition) where
   ends (segments f h ss) w closed k = ap (λ r. ending r k) (known-in-widest edition f _ (w .known) refl)
   ends (elements f es) w closed k = ap (λ r. ending r k) (known-in-widest edition f _ (w .known) refl)
   ends (text f body) w closed k = ap (λ r. ending r k) (known-in-widest edition f _ (w .known) refl)
-  ends (counted f t c n payload) w closed k = ap (λ r. ending r k) (known-in-widest edition f _ (w .known) refl)
+  ends (counted f vs n payload) w closed k = ap (λ r. ending r k) (known-in-widest edition f _ (w .known) refl)
 
   -- what follows an envelope, to the message's end
   envelopes-behind : (e : Envelope) (es : List Envelope) → Each (Within edition) (e ∷ es) → every (λ e. not (isRest e)) (e ∷ es) ≡ true → BehindEnvelope (formatOf e) (toEnd es)
@@ -197,7 +219,7 @@ module _ (edition : Edition) where
   alone-rendered (segments f h ss) w is = absurd (false≢true is)
   alone-rendered (elements f es) w is = absurd (false≢true is)
   alone-rendered (text f body) w is = absurd (false≢true is)
-  alone-rendered (counted f t c n payload) w is = absurd (false≢true is)
+  alone-rendered (counted f vs n payload) w is = absurd (false≢true is)
 
   by-place : (es : List Envelope) (t : Bool) → isRestAlone es ≡ t → isEmpty es ≡ false → Each (Within edition) es → (t || every (λ e. not (isRest e)) es) ≡ true
       → rendered (itemsOf (messageParts es)) ≡ message es

@@ -5,8 +5,9 @@ use mathlib.Core.Path.{_≡_}
 use mathlib.Core.Bool.{Bool, true, false, not, _&&_}
 use mathlib.Core.List.{List}
 use lib.ListN.{length}
+use Rattle.label.specs.declared.Limit.{Limit}
 use Rattle.label.specs.Bytes.{Bytes, plain, every, isEmpty}
-use Rattle.label.specs.Values.{Version, release, payloadType, compression, count, value}
+use Rattle.label.specs.Values.{Version, release, headerValues, count, value}
 use Rattle.label.specs.Segments.{Segment, tagged}
 use Rattle.label.specs.Fields.{transport}
 use Rattle.label.specs.declared.Edition.{Edition}
@@ -19,12 +20,12 @@ pub data Envelope : Type 0 where
   wholeRest : ℕ → Bytes → Envelope
   -- 03, 04: format, the six bytes of the header, and segments
   segments : ℕ → Bytes → List Segment → Envelope
-  -- 05, 06: format and elements
+  -- 05, 06, 12: format and elements
   elements : ℕ → List Bytes → Envelope
   -- 07: format and body
   text : ℕ → Bytes → Envelope
-  -- 09: format, type, compression, count with its digits as they stand, and payload
-  counted : ℕ → Bytes → Bytes → Bytes → Bytes → Envelope
+  -- 09, 15: format, the header values in front of the count (type and compression, or none), count with its digits as they stand, and payload
+  counted : ℕ → List Bytes → Bytes → Bytes → Envelope
 
 -- 01: the version's fields, plain bytes
 pub record WithinFields (edition : Edition) (f : ℕ) (v : Version) (fs : List Bytes) : Type 0 where
@@ -52,7 +53,7 @@ pub record WithinSegments (edition : Edition) (f : ℕ) (header : Bytes) (ss : L
   pub plainBytes : every (every plainElement) ss ≡ true
   pub allTagged : every (tagged isTag) ss ≡ true
 
--- 05, 06: one or more elements, plain bytes, each as the format has it
+-- 05, 06, 12: one or more elements, plain bytes, each as the format has it
 pub record WithinElements (edition : Edition) (f : ℕ) (es : List Bytes) : Type 0 where
   pub isElement : Bytes → Bool
   pub known : ruleOf edition f ≡ asElements isElement
@@ -66,11 +67,11 @@ pub record WithinText (edition : Edition) (f : ℕ) (body : Bytes) : Type 0 wher
   pub known : ruleOf edition f ≡ asText permitted
   pub permittedBytes : every permitted body ≡ true
 
--- 09: type, compression and count as stated, and exactly count bytes
-pub record WithinCounted (edition : Edition) (f : ℕ) (t c n payload : Bytes) : Type 0 where
-  pub known : ruleOf edition f ≡ asCounted
-  pub isType : payloadType t ≡ true
-  pub isCompression : compression c ≡ true
+-- 09, 15: header values and count as stated, and exactly count bytes
+pub record WithinCounted (edition : Edition) (f : ℕ) (vs : List Bytes) (n payload : Bytes) : Type 0 where
+  pub limits : List Limit
+  pub known : ruleOf edition f ≡ asCounted limits
+  pub areValues : headerValues limits vs ≡ true
   pub isCount : count n ≡ true
   pub counts : value n ≡ length payload
 
@@ -81,4 +82,4 @@ Within edition (wholeRest f body) = WithinRest edition f body
 Within edition (segments f header ss) = WithinSegments edition f header ss
 Within edition (elements f es) = WithinElements edition f es
 Within edition (text f body) = WithinText edition f body
-Within edition (counted f t c n payload) = WithinCounted edition f t c n payload
+Within edition (counted f vs n payload) = WithinCounted edition f vs n payload

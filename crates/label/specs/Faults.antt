@@ -28,7 +28,7 @@ abbrev pub firstFault : (ℕ → Bytes → PieceFault) → ℕ → ℕ → List 
 firstFault faultOf i at [] = OfWhole
 firstFault faultOf i at (p ∷ ps) = faultOr (faultOf i p) at (firstFault faultOf (i + 1) (at + length p + 1) ps)
 
--- 05, 06: an element that isn't as its format has it, 11
+-- 05, 06, 12: an element that isn't as its format has it, 11
 unfoldable pub elementFault : (Bytes → Bool) → ℕ → Bytes → PieceFault
 elementFault isElement i e = cond (isElement e) Faultless (Faulty BodyBreaksRules)
 

@@ -5,8 +5,10 @@ use mathlib.Core.List.{List, [], _∷_, _++_}
 use lib.Dec.{eqb}
 use Rattle.label.specs.declared.Edition.{Edition}
 use Rattle.label.specs.declared.Edition.the-variants.{Edition2005, Edition2025}
+use Rattle.label.specs.declared.Limit.{Limit}
 use Rattle.label.specs.Bytes.{Bytes, EOT, RS, control, below80}
-use Rattle.label.specs.Elements.{element05, element06}
+use Rattle.label.specs.Values.{typeLength, compressionLength}
+use Rattle.label.specs.Elements.{element05, element06, element12}
 use Rattle.label.specs.Segments.{tag, tag03}
 
 infix 80 _is_
@@ -19,14 +21,14 @@ unfoldable pub textByte : ℕ → Bool
 textByte b = below80 b && not (control b)
 
 -- what a body is made of: transport fields, all the rest of the message, segments, elements, text, or a counted payload; with the rule
--- for a byte, a tag or an element where formats differ in it
+-- for a byte, a tag or an element where formats differ in it, and for how long the header values in front of a count are
 pub data Rule : Type 0 where
   asFields : Rule
   asRest : (ℕ → Bool) → Rule
   asSegments : (Bytes → Bool) → Rule
   asElements : (Bytes → Bool) → Rule
   asText : (ℕ → Bool) → Rule
-  asCounted : Rule
+  asCounted : List Limit → Rule
   unknown : Rule
 
 pub record Format : Type 0 where
@@ -36,7 +38,7 @@ pub record Format : Type 0 where
 abbrev pub _is_ : ℕ → Rule → Format
 n is r = record { number = n; rule = r }
 
--- the list of formats (001, table 1)
+-- the list of formats (01, Envelope rules)
 abbrev pub formats2005 : List Format
 formats2005 =
     1 is asFields
@@ -46,13 +48,13 @@ formats2005 =
     ∷ 5 is asElements element05
     ∷ 6 is asElements element06
     ∷ 7 is asText textByte
-    ∷ 9 is asCounted
+    ∷ 9 is asCounted (typeLength ∷ compressionLength ∷ [])
     ∷ []
 
 -- what an edition adds to it (02, No. 3)
 abbrev pub added : Edition → List Format
 added Edition2005 = []
-added Edition2025 = []
+added Edition2025 = 12 is asElements element12 ∷ 15 is asCounted [] ∷ []
 
 -- the formats of an edition; those of 2005 keep their rules in both
 abbrev pub formats : Edition → List Format

@@ -54,7 +54,7 @@ pub record FaultInFields (edition : Edition) (f : ℕ) (v : Version) (fs : List 
   pub fault : FieldsLack v fs front r
   pub inFrontOfIt : ahead ≡ aheadOfField f v front
 
--- 05, 06: elements of plain bytes with a fault
+-- 05, 06, 12: elements of plain bytes with a fault
 pub record FaultInElements (edition : Edition) (f : ℕ) (es : List Bytes) (r : Reason) (ahead : Bytes) : Type 0 where
   pub isElement : Bytes → Bool
   pub known : ruleOf edition f ≡ asElements isElement
@@ -71,4 +71,4 @@ FaultIn edition (wholeRest f body) r ahead = ⊥
 FaultIn edition (segments f header ss) r ahead = ⊥
 FaultIn edition (elements f es) r ahead = FaultInElements edition f es r ahead
 FaultIn edition (text f body) r ahead = ⊥
-FaultIn edition (counted f t c n payload) r ahead = ⊥
+FaultIn edition (counted f vs n payload) r ahead = ⊥

@@ -22,7 +22,7 @@ isTransport (wholeRest f body) = false
 isTransport (segments f r ss) = false
 isTransport (elements f es) = false
 isTransport (text f body) = false
-isTransport (counted f t c n payload) = false
+isTransport (counted f vs n payload) = false
 
 -- format 02
 abbrev pub isRest : Envelope → Bool
@@ -31,7 +31,7 @@ isRest (wholeRest f body) = true
 isRest (segments f r ss) = false
 isRest (elements f es) = false
 isRest (text f body) = false
-isRest (counted f t c n payload) = false
+isRest (counted f vs n payload) = false
 
 -- format 02 and nothing else
 abbrev pub isRestAlone : List Envelope → Bool

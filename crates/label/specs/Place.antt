@@ -62,7 +62,7 @@ pub record AtEnvelope (edition : Edition) (m : Bytes) (r : Reason) (p : ℕ) : T
   pub answer : readEnvelope edition (isEmpty before) rest ≡ refuse r
   pub offset : p ≡ length (inFront before)
 
--- 30 to 33, and 11 in 05 and 06: where an envelope is due none can stand, but one with a fault does, with its RS, in a permitted place; the place is
+-- 30 to 33, and 11 in 05, 06 and 12: where an envelope is due none can stand, but one with a fault does, with its RS, in a permitted place; the place is
 -- where its faulty field or element starts, and in front of that stand the envelopes before it and its own bytes
 pub record AtPiece (edition : Edition) (m : Bytes) (r : Reason) (p : ℕ) : Type 0 where
   pub short : length m ≤ longest

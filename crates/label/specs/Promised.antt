@@ -1,4 +1,4 @@
--- What the promises speak of, where a statement needs a name of its own (proofs/Promises, proofs/WriterPromises).
+-- What the promises speak of, where a statement needs a name of its own (proofs/Promises, proofs/WriterPromises, proofs/BothEditions).
 use Prim.Native.Nat.{ℕ, zero, suc, _+_, _*_, _≤_, _<_}
 use mathlib.Core.Path.{_≡_}
 use mathlib.Core.Bool.{Bool, true, false}
@@ -7,17 +7,19 @@ use mathlib.Core.List.{List, [], _∷_, _++_}
 use lib.ListN.{length, take, drop}
 use Rattle.label.specs.declared.Reason.{Reason}
 use Rattle.label.specs.declared.Stretch.{Stretch}
-use Rattle.label.specs.declared.Reason.the-variants.{BodyBreaksRules, NoRoom}
+use Rattle.label.specs.declared.Reason.the-variants.{UnknownFormat, BodyBreaksRules, NoRoom}
 use Rattle.label.specs.Bytes.{Bytes, RS}
 use Rattle.label.specs.Limits.{rowWidth}
 use Rattle.label.specs.declared.Edition.{Edition}
+use Rattle.label.specs.declared.Edition.the-variants.{Edition2005, Edition2025}
 use Rattle.label.specs.Formats.{Rule, asFields, asRest, asSegments, asElements, asText, asCounted, unknown}
 use Rattle.label.specs.Layout.{Item, Row, bytesOf, itemsOf}
 use Rattle.label.specs.Envelope.{Envelope, counted}
-use Rattle.label.specs.Written.{parts}
+use Rattle.label.specs.Written.{twoDigits, parts}
 use Rattle.label.specs.Message.{messageParts, rowsOf, ordinalsOf, Good}
 use Rattle.label.specs.ReadMessage.{refused, reading}
 use Rattle.label.specs.Answer.{refusal, roomOf, readAnswer, tableAfter}
+use Rattle.label.specs.Part.{partOf}
 use Rattle.label.specs.Place.{inFront, PlaceFor}
 use Rattle.label.specs.Writing.{rowsIn, ordinalsIn, itemsIn}
 
@@ -66,7 +68,7 @@ judgedWhole (asRest permitted) = true
 judgedWhole (asSegments isTag) = true
 judgedWhole (asElements isElement) = false
 judgedWhole (asText permitted) = false
-judgedWhole asCounted = false
+judgedWhole (asCounted limits) = false
 judgedWhole unknown = false
 
 -- the bytes from the indicator of the envelope on that is refused with 11
@@ -111,12 +113,12 @@ module _ (m : Bytes) (es : List Envelope) where
     pub from : at ≤ r .start
     pub to : r .start + r .length ≤ at + length (bytesOf (parts (stands .envelope)))
 
--- Demand 3, of another payload in format 09
+-- Demand 3, of another payload where it is counted: formats 09 and 15
 
-module _ (before after : List Envelope) (f : ℕ) (t c n : Bytes) where
+module _ (before after : List Envelope) (f : ℕ) (vs : List Bytes) (n : Bytes) where
   -- a list with a counted payload in it
   abbrev pub with-payload : Bytes → List Envelope
-  with-payload payload = before ++ (counted f t c n payload ∷ after)
+  with-payload payload = before ++ (counted f vs n payload ∷ after)
 
   module _ (payload payload′ : Bytes) (edition : Edition) (m : Bytes) where
     -- the message with the payload's bytes replaced is good, and has the same rows with the same ordinals
@@ -183,3 +185,24 @@ pub record ReadBack (edition : Edition) (held : Bytes) (ns : List ℕ) (w : Byte
       → itemsIn w (take (rowWidth * length (rowsOf envelopes)) (tableAfter edition w table)) ≡ itemsIn held ns
   pub table-ordinals : (table : List ℕ) → length (rowsOf envelopes) ≤ roomOf table
       → ordinalsIn (take (rowWidth * length (rowsOf envelopes)) (tableAfter edition w table)) ≡ ordinalsIn ns
+
+-- 02, No. 3: where the editions differ
+
+-- at an offset stands the indicator of a format that only the edition of 2025 has
+pub record AddedAt (m : Bytes) (p : ℕ) : Type 0 where
+  pub format : ℕ
+  pub isAdded : (format ≡ 12) ⊎ (format ≡ 15)
+  pub behind : Bytes
+  pub bytes : drop p m ≡ twoDigits format ++ behind
+
+-- the edition of 2005 refuses the message there with 6
+pub record Differ (m : Bytes) : Type 0 where
+  pub place : ℕ
+  pub says : reading Edition2005 m ≡ refused UnknownFormat place
+  pub added : AddedAt m place
+
+-- the same answer for every room, the same numbers in every table, the same part for every row
+pub record SameInBoth (m : Bytes) : Type 0 where
+  pub answers : (room : ℕ) → readAnswer Edition2025 m room ≡ readAnswer Edition2005 m room
+  pub tables : (table : List ℕ) → tableAfter Edition2025 m table ≡ tableAfter Edition2005 m table
+  pub parts : (n : ℕ) → partOf Edition2025 m n ≡ partOf Edition2005 m n

@@ -8,12 +8,13 @@ use mathlib.Core.List.{List, [], _∷_, map}
 use lib.ListN.{length, getD, take, drop}
 use lib.Dec.{ltb, eqb}
 use Rattle.label.specs.declared.Reason.{Reason}
+use Rattle.label.specs.declared.Limit.{Limit}
 use Rattle.label.specs.declared.BodyFault.{BodyFault}
 use Rattle.label.specs.declared.BodyFault.the-variants.{InPiece, OfWhole}
 use Rattle.label.specs.declared.Reason.the-variants.{NoIndicator, UnknownFormat, NotFirst, BadFormatHeader, PayloadDoesNotFit, ByteNotPermitted, BodyBreaksRules, NoRecordSeparator}
 use Rattle.label.specs.Bytes.{Bytes, FS, GS, RS, US, plain, digit, every, isEmpty, sameBytes}
 use Rattle.label.specs.Pieces.{pieces, lastIsEmpty, withoutLast, Cut, found, absent, cut}
-use Rattle.label.specs.Values.{Version, version02, version96, versionDigits, releaseLength, release, payloadType, compression, count, value}
+use Rattle.label.specs.Values.{Version, version02, version96, versionDigits, releaseLength, release, headerValue, count, value}
 use Rattle.label.specs.Segments.{Segment, tagged}
 use Rattle.label.specs.Fields.{transport}
 use Rattle.label.specs.Faults.{fieldsFault, elementsFault, wholeFault}
@@ -109,7 +110,7 @@ readSegments isTag f bs =
     (opened (FS ∷ GS ∷ US ∷ []) (drop releaseLength bs) λ after.
     bodied segmentByte (areSegments isTag) wholeFault (λ body. segments f (take releaseLength bs) (segmentsIn body)) after)
 
--- 05, 06: GS, then elements split by GS
+-- 05, 06, 12: GS, then elements split by GS
 unfoldable pub readElements : (Bytes → Bool) → ℕ → Bytes → Step
 readElements isElement f bs =
     opened (GS ∷ []) bs λ after.
@@ -119,18 +120,23 @@ readElements isElement f bs =
 unfoldable pub readText : (ℕ → Bool) → ℕ → Bytes → Step
 readText permitted f bs = bodied permitted (λ body. true) wholeFault (text f) bs
 
--- 09: the payload and its RS are to fit, and the byte after the payload is RS; nothing is looked for inside the payload
+-- 09, 15: the payload and its RS are to fit, and the byte after the payload is RS; nothing is looked for inside the payload
 unfoldable pub readPayload : ℕ → (Bytes → Envelope) → Bytes → Step
 readPayload n made bs = must (ltb n (length bs) && eqb (getD bs n 0) RS) PayloadDoesNotFit (closed (made (take n bs)) (drop (n + 1) bs))
 
--- 09: GS type GS compression GS count GS, then the payload
-unfoldable pub readCounted : ℕ → Bytes → Step
-readCounted f bs =
-    opened (GS ∷ []) bs λ bs₁.
-    valued payloadType bs₁ λ t bs₂.
-    valued compression bs₂ λ c bs₃.
-    valued count bs₃ λ n bs₄.
-    readPayload (value n) (counted f t c n) bs₄
+-- 09: header values, each ended by GS
+abbrev pub readValues : List Limit → Bytes → (List Bytes → Bytes → Step) → Step
+readValues [] bs next = next [] bs
+readValues (l ∷ ls) bs next = valued (headerValue l) bs λ v rest. readValues ls rest λ vs. next (v ∷ vs)
+
+-- 09, 15: the count, ended by GS, then the payload; whatever values stand in front
+unfoldable pub readCount : ℕ → List Bytes → Bytes → Step
+readCount f vs bs = valued count bs λ n rest. readPayload (value n) (counted f vs n) rest
+
+-- 09: GS, type and compression, then the count. 15: no value stands in front of the count, and no GS either
+unfoldable pub readCounted : List Limit → ℕ → Bytes → Step
+readCounted [] f bs = readCount f [] bs
+readCounted (l ∷ ls) f bs = opened (GS ∷ []) bs λ after. readValues (l ∷ ls) after λ vs rest. readCount f vs rest
 
 -- Any format: 6, and 7 where it isn't the first envelope, before its header
 
@@ -141,7 +147,7 @@ readBy (asRest permitted) first f bs = must first NotFirst (readRest permitted f
 readBy (asSegments isTag) first f bs = readSegments isTag f bs
 readBy (asElements isElement) first f bs = readElements isElement f bs
 readBy (asText permitted) first f bs = readText permitted f bs
-readBy asCounted first f bs = readCounted f bs
+readBy (asCounted limits) first f bs = readCounted limits f bs
 
 -- an indicator, two digits, is due: 3; then its format
 unfoldable pub readEnvelope : Edition → Bool → Bytes → Step

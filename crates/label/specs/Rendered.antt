@@ -10,14 +10,15 @@ use Rattle.label.specs.Layout.{Item}
 use Rattle.label.specs.Written.{indicatorRow, valueRow, pieceRow, tagRow, elementRow, subElementRow}
 use Rattle.label.specs.Message.{header}
 
--- before a header value: GS, but in a format of segments nothing
+-- before a header value: GS, but nothing in a format of segments, nor where a count is the only value
 abbrev pub beforeValue : Rule → Bytes
 beforeValue asFields = GS ∷ []
 beforeValue (asRest permitted) = GS ∷ []
 beforeValue (asSegments isTag) = []
 beforeValue (asElements isElement) = GS ∷ []
 beforeValue (asText permitted) = GS ∷ []
-beforeValue asCounted = GS ∷ []
+beforeValue (asCounted []) = []
+beforeValue (asCounted (l ∷ ls)) = GS ∷ []
 beforeValue unknown = GS ∷ []
 
 -- behind an envelope whose last row has a kind: FS ends a segment, RS the envelope
@@ -43,7 +44,7 @@ ending (asRest permitted) p = []
 ending (asSegments isTag) p = closing p ++ (EOT ∷ [])
 ending (asElements isElement) p = closing p ++ (EOT ∷ [])
 ending (asText permitted) p = closing p ++ (EOT ∷ [])
-ending asCounted p = closing p ++ (EOT ∷ [])
+ending (asCounted limits) p = closing p ++ (EOT ∷ [])
 ending unknown p = closing p ++ (EOT ∷ [])
 
 -- the bytes behind an item

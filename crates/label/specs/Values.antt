@@ -1,7 +1,7 @@
 -- What stands in a format's header (01, Envelope rules, column Header).
 use Prim.Native.Nat.{ℕ, _+_, _-_, _*_}
-use mathlib.Core.Bool.{Bool, _&&_}
-use mathlib.Core.List.{[], _∷_}
+use mathlib.Core.Bool.{Bool, true, false, _&&_}
+use mathlib.Core.List.{List, [], _∷_}
 use Rattle.label.specs.declared.Limit.{Limit}
 use Rattle.label.specs.Bytes.{Bytes, ascii, plain, digit, capitalOrDigit, every}
 use Rattle.label.specs.Limits.{longAs, _to_}
@@ -21,7 +21,7 @@ releaseLength = 6
 unfoldable pub release : Bytes → Bool
 release bs = longAs (releaseLength to releaseLength) bs && every capitalOrDigit bs
 
--- 09: how long type, compression and count are (004, 4.2.11)
+-- 09: how long type, compression and count are (004, 4.2.11); the count of 15 likewise (house; 02, No. 3)
 abbrev pub typeLength : Limit
 typeLength = 1 to 30
 
@@ -31,14 +31,18 @@ compressionLength = 0 to 30
 abbrev pub countLength : Limit
 countLength = 1 to 15
 
--- 09: the type and the compression, plain bytes
-unfoldable pub payloadType : Bytes → Bool
-payloadType bs = longAs typeLength bs && every plain bs
+-- 09: the type and the compression, each as long as its limits have it, plain bytes
+unfoldable pub headerValue : Limit → Bytes → Bool
+headerValue limit bs = longAs limit bs && every plain bs
 
-unfoldable pub compression : Bytes → Bool
-compression bs = longAs compressionLength bs && every plain bs
+-- values of a header, one for each of a list of limits
+abbrev pub headerValues : List Limit → List Bytes → Bool
+headerValues [] [] = true
+headerValues [] (v ∷ vs) = false
+headerValues (l ∷ ls) [] = false
+headerValues (l ∷ ls) (v ∷ vs) = headerValue l v && headerValues ls vs
 
--- 09: the count, digits, leading zeros allowed
+-- 09, 15: the count, digits, leading zeros allowed
 unfoldable pub count : Bytes → Bool
 count bs = longAs countLength bs && every digit bs
 

@@ -55,6 +55,11 @@ abbrev pub segmentParts : ℕ → Segment → List Part
 segmentParts f [] = []
 segmentParts f (e ∷ es) = elementParts tagRow f e ++ further GS (map (elementParts elementRow f) es)
 
+-- 09: header values in front of the count: GS, then each with its GS; nothing where there are none, in 15
+abbrev pub valueParts : ℕ → List Bytes → List Part
+valueParts f [] = []
+valueParts f (v ∷ vs) = mark GS ∷ ended GS (rowedEach valueRow f (v ∷ vs))
+
 -- an envelope, but for the RS behind it: indicator, header, body
 unfoldable pub parts : Envelope → List Part
 parts (fields f v fs) = indicator f ∷ mark GS ∷ rowed valueRow f (versionDigits v) ∷ separated GS (rowedEach pieceRow f fs)
@@ -62,10 +67,4 @@ parts (wholeRest f body) = indicator f ∷ rowed bodyRow f body ∷ []
 parts (segments f header ss) = indicator f ∷ rowed valueRow f header ∷ mark FS ∷ mark GS ∷ mark US ∷ ended FS (map (segmentParts f) ss)
 parts (elements f es) = indicator f ∷ mark GS ∷ separated GS (rowedEach pieceRow f es)
 parts (text f body) = indicator f ∷ rowed bodyRow f body ∷ []
-parts (counted f t c n payload) =
-    indicator f
-    ∷ mark GS ∷ rowed valueRow f t
-    ∷ mark GS ∷ rowed valueRow f c
-    ∷ mark GS ∷ rowed valueRow f n
-    ∷ mark GS ∷ rowed bodyRow f payload
-    ∷ []
+parts (counted f vs n payload) = indicator f ∷ (valueParts f vs ++ (rowed valueRow f n ∷ mark GS ∷ rowed bodyRow f payload ∷ []))

@@ -22,7 +22,7 @@ pub const HEADER_LENGTH: usize = 4;
 
 pub const HEADER: [u8; HEADER_LENGTH] = [0x5B, 0x29, 0x3E, 0x1E];
 
-// How long the header values of 03, 04 and 09 are (01, Envelope rules).
+// How long the header values of 03, 04, 09 and 15 are (01, Envelope rules; 02, No. 3).
 pub const RELEASE_LENGTH: usize = 6;
 
 pub const LEAST_TYPE: usize = 1;

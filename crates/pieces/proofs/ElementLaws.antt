@@ -1,14 +1,14 @@
--- What an element of 05 or 06 is, by the tests that the code makes of its length and of one byte after another.
+-- What an element of 05, 06 or 12 is, by the tests that the code makes of its length and of one byte after another.
 use Prim.Native.Nat.{ℕ, suc, _+_, _-_, _≤_, _<_}
 use mathlib.Core.Path.{_≡_, refl, sym, ap, _∙_}
-use mathlib.Core.Bool.{true, false, not, _&&_, cond}
+use mathlib.Core.Bool.{Bool, true, false, not, _&&_, cond}
 use mathlib.Core.List.{[], _∷_}
 use native.Mathlib.Omega.{arith}
 use borrow.Author.Tests.{le-leb, lt-leb, lt-ltb}
 use lib.ListN.{length, getD, take, drop, length-drop}
-use lib.Dec.{leb, ltb}
-use Rattle.label.specs.Bytes.{Bytes, digit, capital, between, every, isEmpty}
-use Rattle.label.specs.Elements.{element05, capitalAndMore, afterDigits}
+use lib.Dec.{leb, ltb, eqb}
+use Rattle.label.specs.Bytes.{Bytes, ascii, digit, capital, capitalOrDigit, between, every, isEmpty, sameBytes}
+use Rattle.label.specs.Elements.{element05, capitalAndMore, afterDigits, element12}
 use Rattle.leaves.proofs.Turns.{drop-step, drop-past, and-true}
 
 pub element05-short : (s : Bytes) → length s < 3 → false ≡ element05 s
@@ -64,3 +64,27 @@ digits-on s i h inside is-digit =
 pub digits-done : (s : Bytes) (i : ℕ) → i ≡ 3 → capitalAndMore (drop 3 s) ≡ afterDigits (3 - i) (drop i s)
 unfolding afterDigits
 digits-done s i is = sym (ap (λ n. afterDigits (3 - n) (drop n s)) is)
+
+-- 12
+
+pub element12-short : (s : Bytes) → length s < 5 → false ≡ element12 s
+unfolding element12
+element12-short s short = sym (ap (λ t. t && every capitalOrDigit (take 3 s) && sameBytes (take 1 (drop 3 s)) (ascii " ")) (lt-leb 5 (length s) short))
+
+pub element12-long : (s : Bytes) → 5 ≤ length s → (((capitalOrDigit (getD s 0 0) && capitalOrDigit (getD s 1 0)) && capitalOrDigit (getD s 2 0)) && eqb (getD s 3 0) 0x20) ≡ element12 s
+unfolding element12
+element12-long [] long = absurd (omega arith)
+element12-long (a ∷ []) long = absurd (omega arith)
+element12-long (a ∷ (b ∷ [])) long = absurd (omega arith)
+element12-long (a ∷ (b ∷ (c ∷ []))) long = absurd (omega arith)
+element12-long (a ∷ (b ∷ (c ∷ (d ∷ [])))) long = absurd (omega arith)
+element12-long (a ∷ (b ∷ (c ∷ (d ∷ (e ∷ s))))) long =
+    by (capitalOrDigit a) (capitalOrDigit b) (capitalOrDigit c) (eqb d 0x20)
+    ∙ sym (ap (λ t. t && (capitalOrDigit a && (capitalOrDigit b && (capitalOrDigit c && true))) && (eqb d 0x20 && true)) (le-leb 5 (suc (suc (suc (suc (suc (length s)))))) (omega arith)))
+  where
+    by : (a b c d : Bool) → (((a && b) && c) && d) ≡ (true && (a && (b && (c && true))) && (d && true))
+    by true true true true = refl
+    by true true true false = refl
+    by true true false d = refl
+    by true false c d = refl
+    by false b c d = refl

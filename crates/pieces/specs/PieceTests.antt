@@ -6,12 +6,12 @@ use lib.Dec.{leb}
 use Rattle.label.specs.Bytes.{Bytes, GS, plain, every, isEmpty}
 use Rattle.label.specs.Limits.{limitOf, longAs}
 use Rattle.label.specs.Values.{Version, version02, version96}
-use Rattle.label.specs.Elements.{element05, element06}
+use Rattle.label.specs.Elements.{element05, element06, element12}
 use Rattle.label.specs.Segments.{tag, tag03}
 use Rattle.label.specs.Fields.{fieldBytes, leastFields, field}
 use Rattle.leaves.specs.Seek.{seek}
 use Rattle.pieces.specs.declared.Kind.{Kind}
-use Rattle.pieces.specs.declared.Kind.the-variants.{Fields02, Fields96, Segments03, Segments04, Elements05, Elements06, Text}
+use Rattle.pieces.specs.declared.Kind.the-variants.{Fields02, Fields96, Segments03, Segments04, Elements05, Elements06, Text, Elements12}
 
 -- the version that a row of the limits is of
 abbrev pub versionIn : ℕ → Version
@@ -31,3 +31,4 @@ pieceTest Segments04 i p = tag (take (seek GS p) p)
 pieceTest Elements05 i p = element05 p
 pieceTest Elements06 i p = element06 p
 pieceTest Text i p = true
+pieceTest Elements12 i p = element12 p

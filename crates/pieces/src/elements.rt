@@ -1,8 +1,8 @@
-// Elements of 05 and 06.
+// Elements of 05, 06 and 12.
 use leaves::Class;
 ghost use mathlib.Core.Path.{_≡_};
 ghost use lib.ListN.{drop};
-ghost use Rattle.label.specs.Elements.{element05, capitalAndMore, element06};
+ghost use Rattle.label.specs.Elements.{element05, capitalAndMore, element06, element12};
 
 // 05: at least three bytes, the first two digits.
 pub(crate) fn element_05(s: &[u8]) -> bool
@@ -40,4 +40,17 @@ pub(crate) fn element_06(s: &[u8]) -> bool
         i += 1;
     }
     capital_and_more(s, 3)
+}
+
+// 12: three capitals or digits, a space, then at least one byte.
+pub(crate) fn element_12(s: &[u8]) -> bool
+    ensures { λ r. ⌜ r ≡ element12 (now (s .entry)) ⌝ }
+{
+    if s.len() < 5 {
+        return false;
+    }
+    leaves::in_class(Class::CapitalOrDigit, s[0])
+        & leaves::in_class(Class::CapitalOrDigit, s[1])
+        & leaves::in_class(Class::CapitalOrDigit, s[2])
+        & (s[3] == 0x20)
 }

@@ -16,6 +16,7 @@ pub enum Kind {
     Elements05,
     Elements06,
     Text,
+    Elements12,
 }
 
 // What is asked of the piece with an index.
@@ -30,5 +31,6 @@ pub fn piece_holds(k: Kind, i: usize, p: &[u8]) -> bool
         Kind::Elements05 => elements::element_05(p),
         Kind::Elements06 => elements::element_06(p),
         Kind::Text => true,
+        Kind::Elements12 => elements::element_12(p),
     }
 }

@@ -125,11 +125,13 @@ fn opening_at(m: &[u8], format: u32, end: usize) -> Cursor
         Shape::Elements06 => plain_row(m, Stage::Piece, format, behind),
         Shape::Text => text_at(m, format, end),
         Shape::Counted => plain_row(m, Stage::TypeValue, format, behind),
+        Shape::Elements12 => plain_row(m, Stage::Piece, format, behind),
+        Shape::CountOnly => plain_row(m, Stage::CountValue, format, end),
         Shape::Unknown => standing_at(Stage::Body, format, end, 0),
     }
 }
 
-// The row behind a field of 01 or an element of 05 or 06.
+// The row behind a field of 01 or an element of 05, 06 or 12.
 fn after_piece(m: &[u8], format: u32, end: usize) -> Cursor
     ensures { λ r. ⌜ r ≡ afterPiece (now (m .entry)) format end ⌝ }
 {

@@ -13,7 +13,7 @@ use Rattle.label.specs.declared.Edition.{Edition}
 use Rattle.label.specs.Bytes.{Bytes, GS, RS, between, digit, every}
 use Rattle.label.specs.Limits.{mostRows}
 use Rattle.label.specs.Values.{value}
-use Rattle.label.specs.Elements.{element05, element06}
+use Rattle.label.specs.Elements.{element05, element06, element12}
 use Rattle.label.specs.Formats.{widest, ruleOf, textByte}
 use Rattle.label.specs.ReadEnvelope.{readBy}
 use Rattle.label.specs.ReadMessage.{agreement}
@@ -24,7 +24,7 @@ use Rattle.formats.specs.Shapes.{ruleFor}
 use Rattle.leaves.specs.Seek.{seek}
 use Rattle.leaves.proofs.Turns.{drop-step}
 use Rattle.pieces.specs.declared.Kind.{Kind}
-use Rattle.pieces.specs.declared.Kind.the-variants.{Fields02, Fields96, Segments03, Segments04, Elements05, Elements06, Text}
+use Rattle.pieces.specs.declared.Kind.the-variants.{Fields02, Fields96, Segments03, Segments04, Elements05, Elements06, Text, Elements12}
 use Rattle.pieces.proofs.SeekLaws.{seek-found}
 use Rattle.envelope.specs.declared.Found.the-variants.{Closed, Refused}
 use Rattle.envelope.specs.Shown.{shown}
@@ -39,7 +39,7 @@ use Rattle.walk.specs.declared.Cursor.{Cursor}
 use Rattle.sweeps.specs.declared.Passed.{Passed}
 use Rattle.sweeps.specs.declared.Wanted.{Wanted}
 use Rattle.walk.specs.Cursors.{ahead, standing, plainRow, indicatorAt, opening, following, nextCursor}
-use Rattle.sweeps.specs.Quick.{Framed, Noted, Notable, NotedOne, ElementsOf, BodySwept, FormatSwept, KnownSwept, EnvelopeSwept, StandsAt}
+use Rattle.sweeps.specs.Quick.{Framed, Noted, Notable, NotedOne, Indicates, ElementsOf, BodySwept, FormatSwept, KnownSwept, EnvelopeSwept, StandsAt}
 use Rattle.sweeps.proofs.ElementEnds.{neither}
 use Rattle.sweeps.proofs.Framing.{byte-behind}
 
@@ -68,6 +68,7 @@ module _ (m : Bytes) (from at rows : ℕ) (inside : at < length m) (gs : getD m 
   unfolding ruleOf readBy
   elements-shown Elements05 f is first = ap (λ f. shown m (readBy (ruleOf widest f) first f (drop at m))) is ∙ shown-elements Elements05 element05 5 m at (omega arith) refl (λ body. refl)
   elements-shown Elements06 f is first = ap (λ f. shown m (readBy (ruleOf widest f) first f (drop at m))) is ∙ shown-elements Elements06 element06 6 m at (omega arith) refl (λ body. refl)
+  elements-shown Elements12 f is first = ap (λ f. shown m (readBy (ruleOf widest f) first f (drop at m))) is ∙ shown-elements Elements12 element12 12 m at (omega arith) refl (λ body. refl)
   elements-shown Fields02 f is first = absurd is
   elements-shown Fields96 f is first = absurd is
   elements-shown Segments03 f is first = absurd is
@@ -79,6 +80,7 @@ module _ (m : Bytes) (from at rows : ℕ) (inside : at < length m) (gs : getD m 
   unfolding ruleOf opening
   elements-due Elements05 f is notes noted = subst (Noted m from notes rows) (ap (λ n. opening m n at (ruleOf widest n)) is ∙ (λ i. plainRow m Piece (sym is i) (one-ahead m at inside i))) noted
   elements-due Elements06 f is notes noted = subst (Noted m from notes rows) (ap (λ n. opening m n at (ruleOf widest n)) is ∙ (λ i. plainRow m Piece (sym is i) (one-ahead m at inside i))) noted
+  elements-due Elements12 f is notes noted = subst (Noted m from notes rows) (ap (λ n. opening m n at (ruleOf widest n)) is ∙ (λ i. plainRow m Piece (sym is i) (one-ahead m at inside i))) noted
   elements-due Fields02 f is notes noted = absurd is
   elements-due Fields96 f is notes noted = absurd is
   elements-due Segments03 f is notes noted = absurd is
@@ -137,62 +139,45 @@ module _ (m : Bytes) (framed : Framed m) (from at rows end : ℕ) (inside : at <
 
 -- Envelopes
 
-module _ (m : Bytes) (framed : Framed m) (from at rows : ℕ) (long : 3 ≤ length m - at)
-    (digits : ((not (eqb (getD m at 0) 0x30) || ltb (getD m (at + 1) 0) 0x30) || ltb 0x39 (getD m (at + 1) 0)) ≡ false) where
-  -- the format that the indicator says
-  abbrev units : ℕ
-  units = getD m (at + 1) 0 - 0x30
+-- a byte that is a digit
+pub is-digit : (b : ℕ) → (ltb b 0x30 || ltb 0x39 b) ≡ false → (0x30 ≤ b) × (b ≤ 0x39)
+is-digit b is = let k = neither (ltb b 0x30) (ltb 0x39 b) is in (ltb-false b 0x30 (k .0), ltb-false 0x39 b (k .1))
 
-  record Says : Type 0 where
-    tens : getD m at 0 ≡ 0x30
-    least : 0x30 ≤ getD m (at + 1) 0
-    most : getD m (at + 1) 0 ≤ 0x39
+-- two digits at an offset
+pub indicates : (m : Bytes) (at t f : ℕ) → 3 ≤ length m - at → getD m at 0 ≡ 0x30 + t → t ≤ 9 → 0x30 ≤ getD m (at + 1) 0 → getD m (at + 1) 0 ≤ 0x39
+    → f ≡ 10 * t + (getD m (at + 1) 0 - 0x30) → Indicates m at f
+unfolding digit between indicatorAt
+indicates m at t f long tens small least most is =
+    let a = getD m at 0 in
+    let b = getD m (at + 1) 0 in
+    let sum : 10 * (10 * 0 + (a - 0x30)) + (b - 0x30) ≡ f = omega (arith, tens, is) in
+    let said : 10 * (a - 0x30) + (b - 0x30) ≡ f = omega (arith, tens, is) in
+    record {
+      says = ap indicatorOf (drop-two m at (omega arith))
+          ∙ cond-yes (digit a && digit b) (value (a ∷ b ∷ [])) 100
+          (and-both (and-both (le-leb 0x30 a (omega (arith, tens))) (le-leb a 0x39 (omega (arith, tens)))) (and-both (le-leb 0x30 b least) (le-leb b 0x39 most)))
+          ∙ sum;
+      row = ap (λ n. standing Indicator n at 2) said;
+      known = omega (arith, is);
+    }
 
-  says : Says
-  says =
-      let k = neither (not (eqb (getD m at 0) 0x30) || ltb (getD m (at + 1) 0) 0x30) (ltb 0x39 (getD m (at + 1) 0)) digits in
-      let l = neither (not (eqb (getD m at 0) 0x30)) (ltb (getD m (at + 1) 0) 0x30) (k .0) in
-      record { tens = eqb-true (getD m at 0) 0x30 (not-not (eqb (getD m at 0) 0x30) (l .0)); least = ltb-false (getD m (at + 1) 0) 0x30 (l .1); most = ltb-false 0x39 (getD m (at + 1) 0) (k .1) }
-    where
-      not-not : (t : Bool) → not t ≡ false → t ≡ true
-      not-not true h = refl
-      not-not false h = sym h
-
-  pub units-fit : (0x30 ≤ getD m (at + 1) 0) × (units ≤ 9)
-  units-fit = let s = says in (s .least, omega (arith, s .most))
-
-  says-format : indicatorOf (drop at m) ≡ units
-  unfolding digit between
-  says-format =
-      let s = says in
-      let a = getD m at 0 in
-      let b = getD m (at + 1) 0 in
-      let sum : 10 * (10 * 0 + (a - 0x30)) + (b - 0x30) ≡ b - 0x30 = omega (arith, s .tens) in
-      ap indicatorOf (drop-two m at (omega arith))
-      ∙ cond-yes (digit a && digit b) (value (a ∷ b ∷ [])) 100 (and-both (and-both (le-leb 0x30 a (omega (arith, s .tens))) (le-leb a 0x39 (omega (arith, s .tens)))) (and-both (le-leb 0x30 b (s .least)) (le-leb b 0x39 (s .most))))
-      ∙ sum
-
+module _ (m : Bytes) (framed : Framed m) (from at rows f : ℕ) (long : 3 ≤ length m - at) (is : Indicates m at f) where
   abbrev indicator-row : Cursor
-  indicator-row = standing Indicator units at 2
+  indicator-row = standing Indicator f at 2
 
-  indicator-here : indicatorAt m at ≡ indicator-row
-  unfolding indicatorAt
-  indicator-here = let s = says in let sum : 10 * (getD m at 0 - 0x30) + units ≡ units = omega (arith, s .tens) in ap (λ f. standing Indicator f at 2) sum
-
-  indicator-next : nextCursor m indicator-row ≡ opening m units (at + 2) (ruleOf widest units)
+  indicator-next : nextCursor m indicator-row ≡ opening m f (at + 2) (ruleOf widest f)
   unfolding nextCursor following
-  indicator-next = let there : ahead m at 2 ≡ at + 2 = omega (arith, length-take 2 (drop at m), length-drop at m) in ap (λ e. opening m units e (ruleOf widest units)) there
+  indicator-next = let there : ahead m at 2 ≡ at + 2 = omega (arith, length-take 2 (drop at m), length-drop at m) in ap (λ e. opening m f e (ruleOf widest f)) there
 
   pub indicator-notable : (c : Cursor) → c ≡ indicator-row → rows ≤ mostRows → Notable rows c
-  indicator-notable c same few = let s = says in subst (Notable rows) (sym same) (record { few = omega arith; inside = omega (arith, framed .short); known = omega (arith, s .most) })
+  indicator-notable c same few = subst (Notable rows) (sym same) (record { few = omega arith; inside = omega (arith, framed .short); known = is .known })
 
   pub format-due : (old new : List ℕ) (c : Cursor) → c ≡ indicator-row → Noted m from old rows (indicatorAt m at) → NotedOne from old new rows c
-      → Noted m from new (rows + 1) (opening m units (at + 2) (ruleOf widest units))
-  format-due old new c same noted one = subst (Noted m from new (rows + 1)) (ap (nextCursor m) same ∙ indicator-next) (one m (subst (Noted m from old rows) (indicator-here ∙ sym same) noted))
+      → Noted m from new (rows + 1) (opening m f (at + 2) (ruleOf widest f))
+  format-due old new c same noted one = subst (Noted m from new (rows + 1)) (ap (nextCursor m) same ∙ indicator-next) (one m (subst (Noted m from old rows) (is .row ∙ sym same) noted))
 
-  pub envelope-swept : (edition : Edition) (p : Passed) (notes : List ℕ) → KnownSwept edition m from units (at + 2) (rows + 1) p notes → EnvelopeSwept edition m from at rows p notes
+  pub envelope-swept : (edition : Edition) (p : Passed) (notes : List ℕ) → KnownSwept edition m from f (at + 2) (rows + 1) p notes → EnvelopeSwept edition m from at rows p notes
   envelope-swept edition p notes known =
-      let s = says in
       let format = known .1 in
       let here : at + 2 - 2 ≡ at = omega arith in
       let count : 1 + (p .rows - (rows + 1)) ≡ p .rows - rows = omega (arith, format .more) in
@@ -200,7 +185,7 @@ module _ (m : Bytes) (framed : Framed m) (from at rows : ℕ) (long : 3 ≤ leng
         more = omega (arith, format .more);
         inside = format .inside;
         closes = λ first only.
-            ap (shown m) (read-some edition first units (drop at m) says-format (omega (arith, s .most)) ∙ (λ i. readBy (known .0 i) first units (drop-drop 2 at m i)))
+            ap (shown m) (read-some edition first f (drop at m) (is .says) (omega (arith, is .known)) ∙ (λ i. readBy (known .0 i) first f (drop-drop 2 at m i)))
             ∙ format .closes first (λ e. only (sym here ∙ e))
             ∙ ap (Closed (p .next)) count;
         noted = format .noted;

@@ -11,7 +11,7 @@ use Rattle.label.specs.Values.{Version, version02, version96}
 use Rattle.label.specs.Fields.{fieldBytes, leastFields, versionRow, field}
 use Rattle.leaves.proofs.Turns.{and-true}
 use Rattle.pieces.specs.declared.Kind.{Kind}
-use Rattle.pieces.specs.declared.Kind.the-variants.{Fields02, Fields96, Segments03, Segments04, Elements05, Elements06, Text}
+use Rattle.pieces.specs.declared.Kind.the-variants.{Fields02, Fields96, Segments03, Segments04, Elements05, Elements06, Text, Elements12}
 use Rattle.pieces.specs.PieceTests.{pieceTest}
 use Rattle.pieces.proofs.FieldLaws.{plain-column, no-bytes}
 use Rattle.sweeps.specs.Transport.{fitsIn, sizeFits}
@@ -42,4 +42,5 @@ module _ (i : ℕ) (other : ((((eqb i 8 || eqb i 9) || eqb i 10) || eqb i 1) || 
   field-sized Segments04 n long fits = absurd (false≢true fits)
   field-sized Elements05 n long fits = absurd (false≢true fits)
   field-sized Elements06 n long fits = absurd (false≢true fits)
+  field-sized Elements12 n long fits = absurd (false≢true fits)
   field-sized Text n long fits = absurd (false≢true fits)

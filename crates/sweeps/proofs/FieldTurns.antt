@@ -17,7 +17,7 @@ use Rattle.label.proofs.Splitting.{pieces-some, pieces-one, pieces-front}
 use Rattle.leaves.specs.Seek.{seek, tallyOf}
 use Rattle.leaves.proofs.Turns.{tally-behind}
 use Rattle.pieces.specs.declared.Kind.{Kind}
-use Rattle.pieces.specs.declared.Kind.the-variants.{Fields02, Fields96, Segments03, Segments04, Elements05, Elements06, Text}
+use Rattle.pieces.specs.declared.Kind.the-variants.{Fields02, Fields96, Segments03, Segments04, Elements05, Elements06, Text, Elements12}
 use Rattle.pieces.specs.PieceTests.{pieceTest}
 use Rattle.bodies.specs.Kinds.{everyFrom}
 use Rattle.bodies.proofs.RuleLaws.{fields-law}
@@ -104,6 +104,7 @@ fields-whole Segments03 most of m before at = absurd of
 fields-whole Segments04 most of m before at = absurd of
 fields-whole Elements05 most of m before at = absurd of
 fields-whole Elements06 most of m before at = absurd of
+fields-whole Elements12 most of m before at = absurd of
 fields-whole Text most of m before at = absurd of
 
 -- where the sweep stands: from here on the same is found as from the start, with the rows gone over

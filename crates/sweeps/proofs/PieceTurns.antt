@@ -12,14 +12,14 @@ use lib.Dec.{eqb, ltb}
 use Rattle.label.specs.declared.Reason.the-variants.{ByteNotPermitted, BodyBreaksRules, NoRecordSeparator}
 use Rattle.label.specs.Bytes.{Bytes, GS, RS, plain, between, every}
 use Rattle.label.specs.Pieces.{pieces}
-use Rattle.label.specs.Elements.{element05, element06}
+use Rattle.label.specs.Elements.{element05, element06, element12}
 use Rattle.label.specs.ReadEnvelope.{plainOrGS}
 use Rattle.label.proofs.Tests.{both, and-both, or-left, free, not-true, free-of, plain-without, every-implies}
 use Rattle.label.proofs.Splitting.{pieces-one, pieces-front}
 use Rattle.leaves.specs.Seek.{seek, tallyOf}
 use Rattle.leaves.proofs.Turns.{drop-step, seek-behind, tally-behind}
 use Rattle.pieces.specs.declared.Kind.{Kind}
-use Rattle.pieces.specs.declared.Kind.the-variants.{Fields02, Fields96, Segments03, Segments04, Elements05, Elements06, Text}
+use Rattle.pieces.specs.declared.Kind.the-variants.{Fields02, Fields96, Segments03, Segments04, Elements05, Elements06, Text, Elements12}
 use Rattle.pieces.specs.PieceTests.{pieceTest}
 use Rattle.bodies.specs.Kinds.{permittedOf, rulesOf, rowsOfBody}
 use Rattle.bodies.proofs.PieceLaws.{leb-same}
@@ -184,6 +184,7 @@ module _ (m : Bytes) (at end before f : ℕ) where
   unfolding bodyKept
   body-on Elements05 of to is = elements-on element05 m at end before to is
   body-on Elements06 of to is = elements-on element06 m at end before to is
+  body-on Elements12 of to is = elements-on element12 m at end before to is
   body-on Fields02 of to is = absurd of
   body-on Fields96 of to is = absurd of
   body-on Segments03 of to is = absurd of
@@ -194,6 +195,7 @@ module _ (m : Bytes) (at end before f : ℕ) where
   unfolding bodyKept
   body-last Elements05 of to is = elements-last element05 m at end before to is
   body-last Elements06 of to is = elements-last element06 m at end before to is
+  body-last Elements12 of to is = elements-last element12 m at end before to is
   body-last Fields02 of to is = absurd of
   body-last Fields96 of to is = absurd of
   body-last Segments03 of to is = absurd of

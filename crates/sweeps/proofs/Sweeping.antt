@@ -9,7 +9,7 @@ use lib.Dec.{eqb}
 use Rattle.label.specs.Bytes.{Bytes, GS, RS, plain}
 use Rattle.label.specs.Limits.{longest, mostRows}
 use Rattle.pieces.specs.declared.Kind.{Kind}
-use Rattle.pieces.specs.declared.Kind.the-variants.{Fields02, Fields96, Segments03, Segments04, Elements05, Elements06, Text}
+use Rattle.pieces.specs.declared.Kind.the-variants.{Fields02, Fields96, Segments03, Segments04, Elements05, Elements06, Text, Elements12}
 use Rattle.pieces.specs.PieceTests.{pieceTest}
 use Rattle.envelope.specs.declared.Found.the-variants.{Closed}
 use Rattle.walk.specs.declared.Stage.{Stage}
@@ -34,6 +34,7 @@ sweeping-first m from k f start before notes inside noted = record { inside = in
 pub elements-known : (k : Kind) (f : ℕ) → ElementsOf k f → f ≤ 99
 elements-known Elements05 f is = omega (arith, is)
 elements-known Elements06 f is = omega (arith, is)
+elements-known Elements12 f is = omega (arith, is)
 elements-known Fields02 f is = absurd is
 elements-known Fields96 f is = absurd is
 elements-known Segments03 f is = absurd is

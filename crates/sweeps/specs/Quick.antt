@@ -18,17 +18,19 @@ use Rattle.label.specs.ReadMessage.{agreement, reading}
 use Rattle.label.specs.Answer.{rowsRead}
 use Rattle.noted.specs.Noted.{noteWidth}
 use Rattle.pieces.specs.declared.Kind.{Kind}
-use Rattle.pieces.specs.declared.Kind.the-variants.{Fields02, Fields96, Segments03, Segments04, Elements05, Elements06, Text}
+use Rattle.pieces.specs.declared.Kind.the-variants.{Fields02, Fields96, Segments03, Segments04, Elements05, Elements06, Text, Elements12}
 use Rattle.envelope.specs.declared.Found.the-variants.{Closed}
 use Rattle.envelope.specs.Shown.{shown}
+use Rattle.envelope.specs.Headers.{indicatorOf}
 use Rattle.envelope.specs.Bodies.{bodyFound}
 use Rattle.judge.specs.Shown.{judgedAs}
+use Rattle.walk.specs.declared.Stage.the-variants.{Indicator}
 use Rattle.walk.specs.declared.Cursor.{Cursor}
 use Rattle.sweeps.specs.declared.Passed.{Passed}
 use Rattle.sweeps.specs.declared.Wanted.{Wanted}
 use Rattle.sweeps.specs.declared.Swept.{Swept}
 use Rattle.sweeps.specs.declared.Swept.the-variants.{Good, Full, Left}
-use Rattle.walk.specs.Cursors.{runOf, rowOf, indicatorAt, firstCursor, nextCursor}
+use Rattle.walk.specs.Cursors.{runOf, standing, rowOf, indicatorAt, firstCursor, nextCursor}
 
 -- a message that ends with EOT: a run of bytes of a class without EOT ends before the message does
 pub record Framed (m : Bytes) : Type 0 where
@@ -107,6 +109,16 @@ NotedOne from old new row c = (m : Bytes) → Noted m from old row c → Noted m
 
 -- Envelopes
 
+-- an indicator stands at an offset, the number of its format is f, and its row is the walk's
+pub record Indicates (m : Bytes) (at f : ℕ) : Type 0 where
+  pub says : indicatorOf (drop at m) ≡ f
+  pub row : indicatorAt m at ≡ standing Indicator f at 2
+  pub known : f ≤ 99
+
+-- a number above 99 says that there is none
+abbrev pub IfFormat : ℕ → Type 0 → Type 0
+IfFormat n fact = n ≤ 99 → fact
+
 -- the formats of elements, by kind of body
 abbrev pub ElementsOf : Kind → ℕ → Type 0
 ElementsOf Fields02 f = ⊥
@@ -116,6 +128,7 @@ ElementsOf Segments04 f = ⊥
 ElementsOf Elements05 f = f ≡ 5
 ElementsOf Elements06 f = f ≡ 6
 ElementsOf Text f = ⊥
+ElementsOf Elements12 f = f ≡ 12
 
 -- a body of a kind from an offset on is closed before the next offset, and its rows are noted
 pub record BodySwept (m : Bytes) (from : ℕ) (k : Kind) (at rows : ℕ) (p : Passed) (notes : List ℕ) : Type 0 where

@@ -7,7 +7,7 @@ use Rattle.label.specs.Limits.{limitOf}
 use Rattle.label.specs.Values.{version02, version96}
 use Rattle.label.specs.Fields.{leastFields, mostFields}
 use Rattle.pieces.specs.declared.Kind.{Kind}
-use Rattle.pieces.specs.declared.Kind.the-variants.{Fields02, Fields96, Segments03, Segments04, Elements05, Elements06, Text}
+use Rattle.pieces.specs.declared.Kind.the-variants.{Fields02, Fields96, Segments03, Segments04, Elements05, Elements06, Text, Elements12}
 
 -- so many bytes are the length of a field by the row of its version in the limits, or by its kind
 abbrev pub fitsIn : ℕ → ℕ → ℕ → Bool
@@ -21,6 +21,7 @@ sizeFits Segments04 i n = false
 sizeFits Elements05 i n = false
 sizeFits Elements06 i n = false
 sizeFits Text i n = false
+sizeFits Elements12 i n = false
 
 -- the kinds of fields, and the most of each
 abbrev pub FieldsOf : Kind → ℕ → Type 0
@@ -31,6 +32,7 @@ FieldsOf Segments04 most = ⊥
 FieldsOf Elements05 most = ⊥
 FieldsOf Elements06 most = ⊥
 FieldsOf Text most = ⊥
+FieldsOf Elements12 most = ⊥
 
 -- so many fields may end with one of a size: enough and not too many, and past the fifth the last is not empty
 pub record LastRight (most count size : ℕ) : Type 0 where

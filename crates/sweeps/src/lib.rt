@@ -17,8 +17,9 @@ pub struct Passed {
     pub rows: usize,
 }
 
-// What a header value of 09 has to be: the stage of its row, its bytes' class, its least and its greatest length.
+// What a header value of 09 or 15 has to be: its format and the stage of its row, its bytes' class, its least and its greatest length.
 pub struct Value {
+    pub format: u32,
     pub stage: Stage,
     pub class: Class,
     pub least: usize,

@@ -1,4 +1,4 @@
-// Runs the vectors of data/ in each edition: messages that are read (vectors.txt), rows that are written (writing.txt), and
+// Runs the vectors of data/ in each edition: messages that are read (vectors.txt, formats.txt), rows that are written (writing.txt), and
 // parts that are handed back (parts.txt). Prints each vector's name and what comes of it. The head of a file says how its vectors are
 // written.
 mod notation;
@@ -28,6 +28,7 @@ fn main() {
 
 fn run_files(edition: Edition) {
     run_file(b"vectors.txt", Trial::Read, edition);
+    run_file(b"formats.txt", Trial::Read, edition);
     run_file(b"writing.txt", Trial::Write, edition);
     run_file(b"parts.txt", Trial::Part, edition);
 }

@@ -76,10 +76,11 @@ opening m f end (asRest permitted) = restRow m f end
 opening m f end (asSegments isTag) = standing ReleaseValue f end releaseLength
 opening m f end (asElements isElement) = plainRow m Piece f (ahead m end 1)
 opening m f end (asText permitted) = textRow m f end
-opening m f end asCounted = plainRow m TypeValue f (ahead m end 1)
+opening m f end (asCounted []) = plainRow m CountValue f end
+opening m f end (asCounted (l ∷ ls)) = plainRow m TypeValue f (ahead m end 1)
 opening m f end unknown = standing Body f end 0
 
--- behind a field of 01 or an element of 05 or 06: the next one behind GS, else the next indicator behind RS
+-- behind a field of 01 or an element of 05, 06 or 12: the next one behind GS, else the next indicator behind RS
 unfoldable pub afterPiece : Bytes → ℕ → ℕ → Cursor
 afterPiece m f end = cond (eqb (getD m end 0) GS) (plainRow m Piece f (ahead m end 1)) (indicatorAt m (ahead m end 1))
 

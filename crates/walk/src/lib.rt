@@ -8,7 +8,7 @@ use label::LONGEST;
 use leaves::Class;
 
 // What a row is: the indicator; a header value (the version of 01, the six bytes of 03 and 04, type, compression and count
-// of 09); a field or an element of 01, 05 or 06; a tag, the first sub-element of a later element, or a further one; a body.
+// of 09 and 15); a field or an element of 01, 05, 06 or 12; a tag, the first sub-element of a later element, or a further one; a body.
 // `kindOf` of specs/Cursors has each one's kind.
 pub enum Stage {
     Indicator,

@@ -8,13 +8,13 @@ use Rattle.label.specs.Bytes.{EOT, GS}
 use Rattle.label.specs.Formats.{Rule}
 use Rattle.label.specs.Rendered.{beforeValue, closing, ending}
 use Rattle.formats.specs.declared.Shape.{Shape}
-use Rattle.formats.specs.declared.Shape.the-variants.{Fields, Rest, Segments03, Segments04, Elements05, Elements06, Text, Counted, Unknown}
+use Rattle.formats.specs.declared.Shape.the-variants.{Fields, Rest, Segments03, Segments04, Elements05, Elements06, Text, Counted, Elements12, CountOnly, Unknown}
 use Rattle.formats.specs.Shapes.{ruleFor}
 use Rattle.formats.proofs.Shape as shape
 
--- the numbers of the shapes with GS before a header value: all but the segments
+-- the numbers of the shapes with GS before a header value: all but the segments and the count alone
 abbrev others : List ℕ
-others = 0 ∷ 1 ∷ 4 ∷ 5 ∷ 6 ∷ 7 ∷ 8 ∷ []
+others = 0 ∷ 1 ∷ 4 ∷ 5 ∷ 6 ∷ 7 ∷ 8 ∷ 10 ∷ []
 
 before-by : (s : Shape) → OneOf others (tagOf shape.the-type s) → GS ∷ [] ≡ beforeValue (ruleFor s)
 before-by Fields is = refl
@@ -25,6 +25,8 @@ before-by Elements05 is = refl
 before-by Elements06 is = refl
 before-by Text is = refl
 before-by Counted is = refl
+before-by Elements12 is = refl
+before-by CountOnly is = absurd (miss others 9 tt is)
 before-by Unknown is = refl
 
 pub before-others : (rule : Rule) (s : Shape) → ruleFor s ≡ rule → OneOf others (tagOf shape.the-type s) → GS ∷ [] ≡ beforeValue rule
@@ -32,7 +34,7 @@ before-others rule s same is = before-by s is ∙ ap beforeValue same
 
 -- the numbers of all shapes but the rest
 abbrev but-rest : List ℕ
-but-rest = 0 ∷ 2 ∷ 3 ∷ 4 ∷ 5 ∷ 6 ∷ 7 ∷ 8 ∷ []
+but-rest = 0 ∷ 2 ∷ 3 ∷ 4 ∷ 5 ∷ 6 ∷ 7 ∷ 8 ∷ 9 ∷ 10 ∷ []
 
 ending-by : (s : Shape) (p : ℕ) → OneOf but-rest (tagOf shape.the-type s) → closing p ++ (EOT ∷ []) ≡ ending (ruleFor s) p
 ending-by Fields p is = refl
@@ -43,6 +45,8 @@ ending-by Elements05 p is = refl
 ending-by Elements06 p is = refl
 ending-by Text p is = refl
 ending-by Counted p is = refl
+ending-by Elements12 p is = refl
+ending-by CountOnly p is = refl
 ending-by Unknown p is = refl
 
 pub ending-others : (rule : Rule) (p : ℕ) (s : Shape) → ruleFor s ≡ rule → OneOf but-rest (tagOf shape.the-type s) → closing p ++ (EOT ∷ []) ≡ ending rule p

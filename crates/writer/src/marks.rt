@@ -65,6 +65,7 @@ fn before_value(format: u32) -> Marks
     match shape {
         Shape::Segments03 => none(),
         Shape::Segments04 => none(),
+        Shape::CountOnly => none(),
         _ => one(GS),
     }
 }

@@ -42,6 +42,12 @@ piece-rows-requires-4 c κs = search needs
 enum-told-7 : tie.Need-enum-told-7
 enum-told-7 c = search needs
 
+enum-told-8 : tie.Need-enum-told-8
+enum-told-8 c = search needs
+
+piece-rows-requires-5 : tie.Need-piece-rows-requires-5
+piece-rows-requires-5 c κs = search needs
+
 returns : tie.Need-returns
 returns c = rw (c .before .enum-told .given .1) (c .piece-rows .ensures)
 
@@ -63,6 +69,9 @@ returns-6 c = rw (c .before .enum-told6 .given .1) (c .piece-rows4 .ensures)
 returns-7 : tie.Need-returns-7
 returns-7 c = rw (c .enum-told7 .given .1)
 
+returns-8 : tie.Need-returns-8
+returns-8 c = rw (c .before .enum-told8 .given .1) (c .piece-rows5 .ensures)
+
 pub rows-in-spec : {M : Type 1} → statement M
 rows-in-spec =
     tie.close
@@ -80,10 +89,13 @@ rows-in-spec =
     enum-told-6
     piece-rows-requires-4
     enum-told-7
+    enum-told-8
+    piece-rows-requires-5
     returns
     returns-2
     returns-3
     returns-4
     returns-5
     returns-6
-    returns-7)
+    returns-7
+    returns-8)

@@ -3,7 +3,7 @@ use mathlib.Core.Path.{_∙_}
 use Rattle.label.specs.Bytes.{GS}
 use Rattle.label.specs.Pieces.{pieces}
 use Rattle.label.specs.Values.{version02, version96}
-use Rattle.label.specs.Elements.{element05, element06}
+use Rattle.label.specs.Elements.{element05, element06, element12}
 use Rattle.label.specs.Segments.{tag, tag03}
 use Rattle.bodies.proofs.RuleLaws.{fields-law, every-elements, segments-law, tag-no-us, tag03-no-us}
 use borrow.Author.Needs.{needs}
@@ -49,6 +49,12 @@ pieces-hold-requires-2 c κs = search needs
 enum-told-7 : tie.Need-enum-told-7
 enum-told-7 c = search needs
 
+enum-told-8 : tie.Need-enum-told-8
+enum-told-8 c = search needs
+
+pieces-hold-requires-3 : tie.Need-pieces-hold-requires-3
+pieces-hold-requires-3 c κs = search needs
+
 returns : tie.Need-returns
 returns c =
     let is = c .before .enum-told .given .1 in
@@ -82,6 +88,11 @@ returns-6 c =
 returns-7 : tie.Need-returns-7
 returns-7 c = rw (c .enum-told7 .given .1)
 
+returns-8 : tie.Need-returns-8
+returns-8 c =
+    let is = c .before .enum-told8 .given .1 in
+    rw is (rw is at (c .pieces-hold3 .ensures) ∙ every-elements element12 0 (pieces GS (c .before .before .before .before .args .body .now)))
+
 pub rules-hold-spec : {M : Type 1} → statement M
 rules-hold-spec =
     tie.close
@@ -99,10 +110,13 @@ rules-hold-spec =
     enum-told-6
     pieces-hold-requires-2
     enum-told-7
+    enum-told-8
+    pieces-hold-requires-3
     returns
     returns-2
     returns-3
     returns-4
     returns-5
     returns-6
-    returns-7)
+    returns-7
+    returns-8)

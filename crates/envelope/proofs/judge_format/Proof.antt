@@ -3,7 +3,7 @@ use mathlib.Core.Path.{_≡_, refl, sym, ap, _∙_}
 use mathlib.Core.Bool.{Bool}
 use lib.ListN.{drop}
 use Rattle.label.specs.declared.Reason.the-variants.{NotFirst}
-use Rattle.label.specs.Elements.{element05, element06}
+use Rattle.label.specs.Elements.{element05, element06, element12}
 use Rattle.label.specs.Segments.{tag, tag03}
 use Rattle.label.specs.Formats.{restByte}
 use Rattle.label.specs.ReadEnvelope.{must, readTransport, readRest, readBy}
@@ -11,7 +11,7 @@ use Rattle.formats.specs.declared.Shape.the-variants as shape
 use Rattle.formats.specs.Shapes.{ruleFor}
 use Rattle.pieces.specs.declared.Kind.the-variants as kind
 use Rattle.envelope.specs.Shown.{shown}
-use Rattle.envelope.proofs.FormatLaws.{found-by, shown-transport, shown-rest, shown-segments, shown-elements, shown-text, shown-counted}
+use Rattle.envelope.proofs.FormatLaws.{found-by, shown-transport, shown-rest, shown-segments, shown-elements, shown-text, shown-counted, shown-count-only}
 use borrow.Author.Needs.{needs}
 use Rattle.envelope.proofs.judge_format.Statement.{statement}
 use Rattle.envelope.proofs.judge_format.Tie as tie
@@ -69,6 +69,18 @@ judge-counted-requires c κs = search needs
 
 enum-told-9 : tie.Need-enum-told-9
 enum-told-9 c = search needs
+
+judge-elements-requires-3 : tie.Need-judge-elements-requires-3
+judge-elements-requires-3 c κs = search needs
+
+enum-told-10 : tie.Need-enum-told-10
+enum-told-10 c = search needs
+
+judge-count-only-requires : tie.Need-judge-count-only-requires
+judge-count-only-requires c κs = search needs
+
+enum-told-11 : tie.Need-enum-told-11
+enum-told-11 c = search needs
 
 returns : tie.Need-returns
 unfolding readBy
@@ -143,8 +155,22 @@ returns-10 c =
 returns-11 : tie.Need-returns-11
 unfolding readBy
 returns-11 c =
+    let args = c .before .before .before .before .before .args in
+    found-by (args .edition) shape.Elements12 (args .first) (args .f) (args .m .now) (args .at) _ (sym (ap ruleFor (c .before .enum-told9 .given .1)) ∙ c .before .before .before .shape-in .ensures)
+    (shown-elements kind.Elements12 element12 (args .f) (args .m .now) (args .at) (c .before .before .before .before .before .pre) refl (λ body. refl) ∙ sym (c .judge-elements3 .ensures))
+
+returns-12 : tie.Need-returns-12
+unfolding readBy
+returns-12 c =
+    let args = c .before .before .before .before .before .args in
+    found-by (args .edition) shape.CountOnly (args .first) (args .f) (args .m .now) (args .at) _ (sym (ap ruleFor (c .before .enum-told10 .given .1)) ∙ c .before .before .before .shape-in .ensures)
+    (shown-count-only (args .f) (args .m .now) (args .at) (c .before .before .before .before .before .pre) ∙ sym (c .judge-count-only .ensures))
+
+returns-13 : tie.Need-returns-13
+unfolding readBy
+returns-13 c =
     let args = c .before .before .before .before .args in
-    found-by (args .edition) shape.Unknown (args .first) (args .f) (args .m .now) (args .at) _ (sym (ap ruleFor (c .enum-told9 .given .1)) ∙ c .before .before .shape-in .ensures) refl
+    found-by (args .edition) shape.Unknown (args .first) (args .f) (args .m .now) (args .at) _ (sym (ap ruleFor (c .enum-told11 .given .1)) ∙ c .before .before .shape-in .ensures) refl
 
 pub judge-format-spec : {M : Type 1} → statement M
 judge-format-spec =
@@ -168,6 +194,10 @@ judge-format-spec =
     enum-told-8
     judge-counted-requires
     enum-told-9
+    judge-elements-requires-3
+    enum-told-10
+    judge-count-only-requires
+    enum-told-11
     returns
     returns-2
     returns-3
@@ -178,4 +208,6 @@ judge-format-spec =
     returns-8
     returns-9
     returns-10
-    returns-11)
+    returns-11
+    returns-12
+    returns-13)

@@ -1,9 +1,13 @@
 -- `shape_in` goes by the list of formats: a number of 2005's has its rule, any other what its edition adds.
 use mathlib.Core.Path.{sym, _∙_}
 use Rattle.label.specs.Formats.{ruleOf}
-use Rattle.formats.proofs.Table.{only-added, none-added}
+use Rattle.formats.proofs.Table.{only-added}
+use borrow.Author.Needs.{needs}
 use Rattle.formats.proofs.shape_in.Statement.{statement}
 use Rattle.formats.proofs.shape_in.Tie as tie
+
+shape-added-requires : tie.Need-shape-added-requires
+shape-added-requires c κs = search needs
 
 returns : tie.Need-returns
 unfolding ruleOf
@@ -39,13 +43,14 @@ returns-8 c = rw (c .match .keys8)
 
 returns-9 : tie.Need-returns-9
 returns-9 c =
-    let args = c .before .args in
-    sym (only-added (args .edition) (args .format) (c .match .rest) ∙ none-added (args .edition) (args .format))
+    let args = c .before .before .args in
+    c .shape-added .ensures ∙ sym (only-added (args .edition) (args .format) (c .before .match .rest))
 
 pub shape-in-spec : {M : Type 1} → statement M
 shape-in-spec =
     tie.close
     (tie.spec
+    shape-added-requires
     returns
     returns-2
     returns-3

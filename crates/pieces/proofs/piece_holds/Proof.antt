@@ -43,6 +43,12 @@ element-06-requires c κs = search needs
 enum-told-7 : tie.Need-enum-told-7
 enum-told-7 c = search needs
 
+enum-told-8 : tie.Need-enum-told-8
+enum-told-8 c = search needs
+
+element-12-requires : tie.Need-element-12-requires
+element-12-requires c κs = search needs
+
 returns : tie.Need-returns
 unfolding field
 returns c = rw (c .before .enum-told .given .1) (c .field-holds .ensures)
@@ -66,6 +72,9 @@ returns-6 c = rw (c .before .enum-told6 .given .1) (c .element-06 .ensures)
 returns-7 : tie.Need-returns-7
 returns-7 c = rw (c .enum-told7 .given .1)
 
+returns-8 : tie.Need-returns-8
+returns-8 c = rw (c .before .enum-told8 .given .1) (c .element-12 .ensures)
+
 pub piece-holds-spec : {M : Type 1} → statement M
 piece-holds-spec =
     tie.close
@@ -83,10 +92,13 @@ piece-holds-spec =
     enum-told-6
     element-06-requires
     enum-told-7
+    enum-told-8
+    element-12-requires
     returns
     returns-2
     returns-3
     returns-4
     returns-5
     returns-6
-    returns-7)
+    returns-7
+    returns-8)

@@ -1,4 +1,4 @@
-// The quick path over formats 05 and 06: GS, then elements up to an RS.
+// The quick path over formats 05, 06 and 12: GS, then elements up to an RS.
 use crate::quick::notes::given_up;
 use crate::quick::notes::note;
 use crate::quick::runs::piece_end;
@@ -60,6 +60,7 @@ fn element_end(m: &[u8], k: Kind, at: usize) -> usize
     match k {
         Kind::Elements05 => piece_end(m, Kind::Elements05, 0, at),
         Kind::Elements06 => end_of_06(m, at),
+        Kind::Elements12 => piece_end(m, Kind::Elements12, 0, at),
         _ => 0,
     }
 }
@@ -106,7 +107,7 @@ fn sweep_pieces(
     given_up(rows)
 }
 
-// 05, 06: GS, then elements.
+// 05, 06, 12: GS, then elements.
 pub(crate) fn sweep_elements(
     m: &[u8],
     w: Wanted,

@@ -1,4 +1,5 @@
 // The quick path over a whole message: its frame, then an envelope a turn, each by its format.
+use crate::quick::counted::sweep_count_only;
 use crate::quick::counted::sweep_counted;
 use crate::quick::elements::sweep_elements;
 use crate::quick::notes::given_up;
@@ -20,12 +21,12 @@ use sweeps::Swept;
 use sweeps::Wanted;
 use walk::Stage;
 use walk::standing_at;
-ghost use Prim.Native.Nat.{_≤_, _<_};
+ghost use Prim.Native.Nat.{_-_, _≤_, _<_};
 ghost use lib.ListN.{length};
 ghost use Rattle.label.specs.Limits.{mostRows};
 ghost use Rattle.label.specs.Formats.{widest, ruleOf};
 ghost use Rattle.walk.specs.Cursors.{indicatorAt, opening};
-ghost use Rattle.sweeps.specs.Quick.{IfAny, KnownSwept, EnvelopeSwept, IfSo, Headed, SaysNothing, EndsSo, SweptSo, StandsAt};
+ghost use Rattle.sweeps.specs.Quick.{IfAny, IfFormat, Indicates, KnownSwept, EnvelopeSwept, IfSo, Headed, SaysNothing, EndsSo, SweptSo, StandsAt};
 
 // The format with a number, behind its indicator, by the shape that the edition gives it.
 fn sweep_format(
@@ -49,11 +50,33 @@ fn sweep_format(
         Shape::Elements06 => sweep_elements(m, w, Kind::Elements06, 6, at, rows, notes),
         Shape::Text => sweep_text(m, w, at, rows, notes),
         Shape::Counted => sweep_counted(m, w, at, rows, notes),
+        Shape::Elements12 => sweep_elements(m, w, Kind::Elements12, 12, at, rows, notes),
+        Shape::CountOnly => sweep_count_only(m, w, at, rows, notes),
         _ => given_up(rows),
     }
 }
 
-// An envelope: its indicator, 00 to 09, and its format.
+// The number of an indicator of a format that is swept, 00 to 19; 100 where another stands there, or none.
+fn format_at(m: &[u8], at: usize) -> u32
+    requires { ⌜ 3 ≤ length (now m) - at ⌝ }
+    ensures { λ r. ⌜ IfFormat r (Indicates (now (m .entry)) at r) ⌝ }
+{
+    let tens = m[at];
+    let units = m[at + 1];
+    if (units < 0x30) | (0x39 < units) {
+        return 100;
+    }
+    let unit = (units - 0x30) as u32;
+    if tens == 0x30 {
+        return unit;
+    }
+    if tens == 0x31 {
+        return 10 + unit;
+    }
+    100
+}
+
+// An envelope: its indicator and its format.
 fn sweep_envelope(
     edition: Edition,
     m: &[u8],
@@ -71,11 +94,10 @@ fn sweep_envelope(
     if w.most <= rows {
         return given_up(rows);
     }
-    let units = m[at + 1];
-    if (m[at] != 0x30) | (units < 0x30) | (0x39 < units) {
+    let f = format_at(m, at);
+    if 99 < f {
         return given_up(rows);
     }
-    let f = (units - 0x30) as u32;
     note(notes, w.from, rows, standing_at(Stage::Indicator, f, at, 2));
     sweep_format(edition, m, w, f, at + 2, rows + 1, notes)
 }

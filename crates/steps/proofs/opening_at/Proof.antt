@@ -63,6 +63,18 @@ plain-row-requires-3 c κs = search needs
 enum-told-9 : tie.Need-enum-told-9
 enum-told-9 c = search needs
 
+plain-row-requires-4 : tie.Need-plain-row-requires-4
+plain-row-requires-4 c κs = search needs
+
+enum-told-10 : tie.Need-enum-told-10
+enum-told-10 c = search needs
+
+plain-row-requires-5 : tie.Need-plain-row-requires-5
+plain-row-requires-5 c κs = search needs
+
+enum-told-11 : tie.Need-enum-told-11
+enum-told-11 c = search needs
+
 standing-at-requires-4 : tie.Need-standing-at-requires-4
 standing-at-requires-4 c κs = search needs
 
@@ -100,7 +112,15 @@ returns-8 c = simp (c .plain-row3 .ensures, c .before .before .before .before .a
 
 returns-9 : tie.Need-returns-9
 unfolding opening
-returns-9 c = simp (c .standing-at4 .ensures, sym (c .before .before .before .shape-of .ensures) ∙ ap ruleFor (c .before .enum-told9 .given .1))
+returns-9 c = simp (c .plain-row4 .ensures, c .before .before .before .before .ahead-of .ensures, sym (c .before .before .before .shape-of .ensures) ∙ ap ruleFor (c .before .enum-told9 .given .1))
+
+returns-10 : tie.Need-returns-10
+unfolding opening
+returns-10 c = simp (c .plain-row5 .ensures, sym (c .before .before .before .shape-of .ensures) ∙ ap ruleFor (c .before .enum-told10 .given .1))
+
+returns-11 : tie.Need-returns-11
+unfolding opening
+returns-11 c = simp (c .standing-at4 .ensures, sym (c .before .before .before .shape-of .ensures) ∙ ap ruleFor (c .before .enum-told11 .given .1))
 
 pub opening-at-spec : {M : Type 1} → statement M
 opening-at-spec =
@@ -125,6 +145,10 @@ opening-at-spec =
     enum-told-8
     plain-row-requires-3
     enum-told-9
+    plain-row-requires-4
+    enum-told-10
+    plain-row-requires-5
+    enum-told-11
     standing-at-requires-4
     returns
     returns-2
@@ -134,4 +158,6 @@ opening-at-spec =
     returns-6
     returns-7
     returns-8
-    returns-9)
+    returns-9
+    returns-10
+    returns-11)

@@ -12,7 +12,7 @@ value-end-requires : tie.Need-value-end-requires
 value-end-requires c κs = search needs
 
 returns : tie.Need-returns
-returns c = sym (ap (λ end. afterValue (c .before .before .before .args .m .now) end (countFound (c .before .before .before .args .m .now))) (sym (c .before .value-end .ensures)) ∙ cond-no _ _ _ (le-ltb (c .before .value-end .result) (length (c .before .before .before .args .m .now)) (c .if1 .taken)))
+returns c = sym (ap (λ end. afterValue (c .before .before .before .args .m .now) end (countFound 5 (c .before .before .before .args .m .now))) (sym (c .before .value-end .ensures)) ∙ cond-no _ _ _ (le-ltb (c .before .value-end .result) (length (c .before .before .before .args .m .now)) (c .if1 .taken)))
 
 add-judge-count : tie.Need-add-judge-count
 add-judge-count c = search needs
@@ -23,7 +23,7 @@ judge-count-requires c κs = search needs
 returns-2 : tie.Need-returns-2
 returns-2 c =
     c .judge-count .ensures
-    ∙ sym (ap (λ end. afterValue (c .before .before .before .before .args .m .now) end (countFound (c .before .before .before .before .args .m .now))) (sym (c .before .before .value-end .ensures)) ∙ cond-yes _ _ _ (lt-ltb (c .before .before .value-end .result) (length (c .before .before .before .before .args .m .now)) (c .before .if1 .left)))
+    ∙ sym (ap (λ end. afterValue (c .before .before .before .before .args .m .now) end (countFound 5 (c .before .before .before .before .args .m .now))) (sym (c .before .before .value-end .ensures)) ∙ cond-yes _ _ _ (lt-ltb (c .before .before .value-end .result) (length (c .before .before .before .before .args .m .now)) (c .before .if1 .left)))
 
 pub judge-compression-spec : {M : Type 1} → statement M
 judge-compression-spec =

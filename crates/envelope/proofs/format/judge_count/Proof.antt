@@ -17,7 +17,7 @@ value-end-requires : tie.Need-value-end-requires
 value-end-requires c κs = search needs
 
 returns : tie.Need-returns
-returns c = sym (ap (λ end. afterValue (c .before .before .before .args .m .now) end (payloadFound (value (take (end - c .before .before .before .args .at) (drop (c .before .before .before .args .at) (c .before .before .before .args .m .now)))) (c .before .before .before .args .m .now))) (sym (c .before .value-end .ensures)) ∙ cond-no _ _ _ (le-ltb (c .before .value-end .result) (length (c .before .before .before .args .m .now)) (c .if1 .taken)))
+returns c = sym (ap (λ end. afterValue (c .before .before .before .args .m .now) end (payloadFound (c .before .before .before .args .rows) (value (take (end - c .before .before .before .args .at) (drop (c .before .before .before .args .at) (c .before .before .before .args .m .now)))) (c .before .before .before .args .m .now))) (sym (c .before .value-end .ensures)) ∙ cond-no _ _ _ (le-ltb (c .before .value-end .result) (length (c .before .before .before .args .m .now)) (c .if1 .taken)))
 
 sub-digits-value : tie.Need-sub-digits-value
 sub-digits-value c =
@@ -49,8 +49,8 @@ judge-payload-requires c κs = search needs
 returns-2 : tie.Need-returns-2
 returns-2 c =
     c .judge-payload .ensures
-    ∙ ap (λ n. payloadFound n (c .before .before .before .before .before .before .args .m .now) (c .before .before .before .before .value-end .result + 1)) (c .before .digits-value .ensures)
-    ∙ sym (ap (λ end. afterValue (c .before .before .before .before .before .before .args .m .now) end (payloadFound (value (take (end - c .before .before .before .before .before .before .args .at) (drop (c .before .before .before .before .before .before .args .at) (c .before .before .before .before .before .before .args .m .now)))) (c .before .before .before .before .before .before .args .m .now))) (sym (c .before .before .before .before .value-end .ensures)) ∙ cond-yes _ _ _ (lt-ltb (c .before .before .before .before .value-end .result) (length (c .before .before .before .before .before .before .args .m .now)) (c .before .before .before .if1 .left)))
+    ∙ ap (λ n. payloadFound (c .before .before .before .before .before .before .args .rows) n (c .before .before .before .before .before .before .args .m .now) (c .before .before .before .before .value-end .result + 1)) (c .before .digits-value .ensures)
+    ∙ sym (ap (λ end. afterValue (c .before .before .before .before .before .before .args .m .now) end (payloadFound (c .before .before .before .before .before .before .args .rows) (value (take (end - c .before .before .before .before .before .before .args .at) (drop (c .before .before .before .before .before .before .args .at) (c .before .before .before .before .before .before .args .m .now)))) (c .before .before .before .before .before .before .args .m .now))) (sym (c .before .before .before .before .value-end .ensures)) ∙ cond-yes _ _ _ (lt-ltb (c .before .before .before .before .value-end .result) (length (c .before .before .before .before .before .before .args .m .now)) (c .before .before .before .if1 .left)))
 
 pub judge-count-spec : {M : Type 1} → statement M
 judge-count-spec =

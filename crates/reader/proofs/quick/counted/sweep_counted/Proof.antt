@@ -57,8 +57,8 @@ sweep-compression-requires c κs =
     let args = c .before .before .before .before .before .before .before .before .before .before .before .before .before .before .args in
     let pre = c .before .before .before .before .before .before .before .before .before .before .before .before .before .before .pre in
     let value = c .before .before .before .before .sweep-value in
-    value-due (args .m .now) (args .w .from) typeValue (args .at + 1) (args .rows) (value .result) (value .last .1 .1 .1 .1 .1 .0) CompressionValue 3 (λ end. behind-type (args .m .now) (args .at + 1) end (value .result))
-    (pre .framed) (omega arith) (value .ensures (omega (arith, c .before .if4 .left)))
+    value-due (args .m .now) (args .w .from) typeValue (args .at + 1) (args .rows) (value .result) (value .last .1 .1 .1 .1 .1 .0) CompressionValue 3 (λ end. behind-type 9 (args .m .now) (args .at + 1) end (value .result))
+    (pre .framed) (omega arith) (omega arith) (value .ensures (omega (arith, c .before .if4 .left)))
 
 same-length-2 : tie.Need-same-length-2
 same-length-2 c = search needs

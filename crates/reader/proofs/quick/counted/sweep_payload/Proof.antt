@@ -10,7 +10,7 @@ use Rattle.reader.proofs.quick.counted.sweep_payload.Tie as tie
 sweep-value-requires : tie.Need-sweep-value-requires
 sweep-value-requires c κs =
     let pre = c .before .before .before .pre in
-    (record { framed = pre .framed; inside = pre .inside; few = omega (arith, pre .few); noted = pre .noted }, digit-plain)
+    (record { framed = pre .framed; inside = pre .inside; few = omega (arith, pre .few); known = pre .known; noted = pre .noted }, digit-plain)
 
 given-up-requires : tie.Need-given-up-requires
 given-up-requires c κs = search needs
@@ -61,16 +61,16 @@ note-requires : tie.Need-note-requires
 note-requires c κs =
     let pre = c .before .before .before .before .before .before .before .before .before .before .before .before .before .pre in
     let swept = c .before .before .before .before .before .before .before .before .before .sweep-value .ensures (omega (arith, c .before .before .before .before .before .before .if1 .left)) in
-    row-notable _ Body (c .before .before .before .before .before .before .before .before .before .sweep-value .result) (c .before .before .before .before .before .count-from .result) (c .standing-at .result) (c .standing-at .ensures) (omega (arith, pre .few)) (omega (arith, pre .framed .short, c .before .before .before .before .if2 .left))
-
-add-t14 : tie.Need-add-t14
-add-t14 c = search needs
+    row-notable _ _ Body (c .before .before .before .before .before .before .before .before .before .sweep-value .result) (c .before .before .before .before .before .count-from .result) (c .standing-at .result) (c .standing-at .ensures) (omega (arith, pre .few)) (pre .known) (omega (arith, pre .framed .short, c .before .before .before .before .if2 .left))
 
 add-t15 : tie.Need-add-t15
 add-t15 c = search needs
 
-add-t22 : tie.Need-add-t22
-add-t22 c = search needs
+add-t16 : tie.Need-add-t16
+add-t16 c = search needs
+
+add-t23 : tie.Need-add-t23
+add-t23 c = search needs
 
 same-length-4 : tie.Need-same-length-4
 same-length-4 c = search needs
@@ -81,7 +81,7 @@ returns-4 c =
     let pre = c .before .before .before .before .before .before .before .before .before .before .before .before .before .before .before .before .pre in
     let value = c .before .before .before .before .before .before .before .before .before .before .before .before .sweep-value in
     λ some.
-    payload-swept (args .m .now) (args .from) (args .count) (args .rows) (value .result) (c .before .before .before .before .before .before .before .before .count-from .result) (value .last .1 .1 .1 .1 .1 .0) (c .before .before .note .last .0) (c .before .before .before .standing-at .result)
+    payload-swept (args .f) (args .m .now) (args .from) (args .count) (args .rows) (value .result) (c .before .before .before .before .before .before .before .before .count-from .result) (value .last .1 .1 .1 .1 .1 .0) (c .before .before .note .last .0) (c .before .before .before .standing-at .result)
     (pre .framed) (value .ensures (omega (arith, c .before .before .before .before .before .before .before .before .before .if1 .left))) (c .before .before .before .before .before .before .before .before .count-from .ensures) (c .before .before .before .before .before .before .before .if2 .left) (c .before .before .before .before .before .if3 .left) (c .before .before .before .standing-at .ensures) (c .before .before .note .ensures)
 
 pub sweep-payload-spec : {M : Type 1} → statement M
@@ -105,8 +105,8 @@ sweep-payload-spec =
     add-note
     standing-at-requires
     note-requires
-    add-t14
     add-t15
-    add-t22
+    add-t16
+    add-t23
     same-length-4
     returns-4)

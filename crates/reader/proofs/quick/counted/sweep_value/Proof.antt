@@ -31,7 +31,7 @@ note-requires c κs =
     let args = c .before .before .before .before .before .before .before .before .before .before .args in
     let pre = c .before .before .before .before .before .before .before .before .before .before .pre .0 in
     let runs = c .before .before .before .before .before .before .before .run-end .ensures in
-    row-notable (args .rows) (args .v .stage) (args .at) _ (c .standing-at .result) (c .standing-at .ensures) (omega arith) (omega (arith, pre .framed .short, runs .inside, runs .runs))
+    row-notable (args .rows) (args .v .format) (args .v .stage) (args .at) _ (c .standing-at .result) (c .standing-at .ensures) (omega arith) (pre .known) (omega (arith, pre .framed .short, runs .inside, runs .runs))
 
 add-result : tie.Need-add-result
 add-result c = search needs

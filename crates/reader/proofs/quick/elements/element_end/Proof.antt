@@ -1,4 +1,4 @@
--- `element_end` is the end that `pieces` says of 05, or the hand-tuned one of 06.
+-- `element_end` is the end that `pieces` says of 05 and 12, or the hand-tuned one of 06.
 use mathlib.Core.Path.{sym, subst}
 use native.Mathlib.Omega.{arith}
 use Rattle.pieces.specs.declared.Kind.{Kind}
@@ -20,6 +20,12 @@ enum-told-2 c = search needs
 end-of-06-requires : tie.Need-end-of-06-requires
 end-of-06-requires c κs = search needs
 
+enum-told-3 : tie.Need-enum-told-3
+enum-told-3 c = search needs
+
+piece-end-requires-2 : tie.Need-piece-end-requires-2
+piece-end-requires-2 c κs = search needs
+
 returns : tie.Need-returns
 returns c =
     λ some.
@@ -34,7 +40,12 @@ returns-2 c =
 
 returns-3 : tie.Need-returns-3
 returns-3 c =
-    λ some. absurd (omega arith)
+    λ some.
+    let args = c .before .before .before .before .args in
+    subst (λ (k : Kind). PassesTo (pieceTest k 0) (args .m .now) (args .at) (c .piece-end2 .result)) (sym (c .before .enum-told3 .given .1)) (c .piece-end2 .ensures some)
+
+returns-4 : tie.Need-returns-4
+returns-4 c = λ some. absurd (omega arith)
 
 pub element-end-spec : {M : Type 1} → statement M
 element-end-spec =
@@ -44,6 +55,9 @@ element-end-spec =
     piece-end-requires
     enum-told-2
     end-of-06-requires
+    enum-told-3
+    piece-end-requires-2
     returns
     returns-2
-    returns-3)
+    returns-3
+    returns-4)

@@ -1,6 +1,6 @@
 -- `sweep_envelope` notes the indicator's row, and its format follows.
 use native.Mathlib.Omega.{arith}
-use Rattle.sweeps.proofs.EnvelopeSweeps.{units-fit, indicator-notable, format-due, envelope-swept}
+use Rattle.sweeps.proofs.EnvelopeSweeps.{indicator-notable, format-due, envelope-swept}
 use borrow.Author.Needs.{needs}
 use Rattle.reader.proofs.quick.message.sweep_envelope.Statement.{statement}
 use Rattle.reader.proofs.quick.message.sweep_envelope.Tie as tie
@@ -20,14 +20,8 @@ given-up-requires-2 c κs = search needs
 returns-2 : tie.Need-returns-2
 returns-2 c = λ some. absurd (omega (arith, c .given-up2 .ensures))
 
-add-units : tie.Need-add-units
-add-units c = search needs
-
-shared-slice-read-units : tie.Need-shared-slice-read-units
-shared-slice-read-units c = search needs
-
-shared-slice-read-if3 : tie.Need-shared-slice-read-if3
-shared-slice-read-if3 c = search needs
+format-at-requires : tie.Need-format-at-requires
+format-at-requires c κs = search needs
 
 given-up-requires-3 : tie.Need-given-up-requires-3
 given-up-requires-3 c κs = search needs
@@ -35,35 +29,17 @@ given-up-requires-3 c κs = search needs
 returns-3 : tie.Need-returns-3
 returns-3 c = λ some. absurd (omega (arith, c .given-up3 .ensures))
 
-sub-f : tie.Need-sub-f
-sub-f c =
-    let args = c .before .before .before .before .before .before .before .before .args in
-    let pre = c .before .before .before .before .before .before .before .before .pre in
-    let long = c .before .before .before .before .before .if1 .left in
-    let digits = c .if3 .left in
-    let fit = units-fit (args .m .now) (pre .framed) (args .w .from) (args .at) (args .rows) long digits in
-    fit .0
-
-cast-f : tie.Need-cast-f
-cast-f c =
-    let args = c .before .before .before .before .before .before .before .before .args in
-    let pre = c .before .before .before .before .before .before .before .before .pre in
-    let long = c .before .before .before .before .before .if1 .left in
-    let digits = c .if3 .left in
-    let fit = units-fit (args .m .now) (pre .framed) (args .w .from) (args .at) (args .rows) long digits in
-    let few = fit .1 in
-    search needs
-
 standing-at-requires : tie.Need-standing-at-requires
 standing-at-requires c κs = search needs
 
 note-requires : tie.Need-note-requires
 note-requires c κs =
-    let args = c .before .before .before .before .before .before .before .before .before .before .args in
-    let pre = c .before .before .before .before .before .before .before .before .before .before .pre in
-    let long = c .before .before .before .before .before .before .before .if1 .left in
-    let digits = c .before .before .if3 .left in
-    indicator-notable (args .m .now) (pre .framed) (args .w .from) (args .at) (args .rows) long digits (c .standing-at .result) (c .standing-at .ensures) (omega (arith, pre .few, c .before .before .before .before .before .if2 .left))
+    let args = c .before .before .before .before .before .before .before .before .before .args in
+    let pre = c .before .before .before .before .before .before .before .before .before .pre in
+    let format = c .before .before .before .format-at in
+    let says = format .ensures (c .before .before .if3 .left) in
+    let long = c .before .before .before .before .before .before .if1 .left in
+    indicator-notable (args .m .now) (pre .framed) (args .w .from) (args .at) (args .rows) (format .result) long says (c .standing-at .result) (c .standing-at .ensures) (omega (arith, pre .few, c .before .before .before .before .if2 .left))
 
 add-sweep-format : tie.Need-add-sweep-format
 add-sweep-format c = search needs
@@ -73,25 +49,27 @@ add-sweep-format-2 c = search needs
 
 sweep-format-requires : tie.Need-sweep-format-requires
 sweep-format-requires c κs =
-    let args = c .before .before .before .before .before .before .before .before .before .before .before .before .before .before .args in
-    let pre = c .before .before .before .before .before .before .before .before .before .before .before .before .before .before .pre in
-    let long = c .before .before .before .before .before .before .before .before .before .before .before .if1 .left in
-    let digits = c .before .before .before .before .before .before .if3 .left in
+    let args = c .before .before .before .before .before .before .before .before .before .before .before .before .before .args in
+    let pre = c .before .before .before .before .before .before .before .before .before .before .before .before .before .pre in
+    let format = c .before .before .before .before .before .before .before .format-at in
+    let says = format .ensures (c .before .before .before .before .before .before .if3 .left) in
+    let long = c .before .before .before .before .before .before .before .before .before .before .if1 .left in
     let noted = c .before .before .before .note in
     let row = c .before .before .before .before .standing-at in
-    record { framed = pre .framed; inside = omega (arith, long); few = pre .few; noted = format-due (args .m .now) (pre .framed) (args .w .from) (args .at) (args .rows) long digits (args .notes .now) (noted .last .0) (row .result) (row .ensures) (pre .noted) (noted .ensures) }
+    record { framed = pre .framed; inside = omega (arith, long); few = pre .few; noted = format-due (args .m .now) (pre .framed) (args .w .from) (args .at) (args .rows) (format .result) long says (args .notes .now) (noted .last .0) (row .result) (row .ensures) (pre .noted) (noted .ensures) }
 
 same-length : tie.Need-same-length
 same-length c = search needs
 
 returns-4 : tie.Need-returns-4
 returns-4 c =
-    let args = c .before .before .before .before .before .before .before .before .before .before .before .before .before .before .before .before .before .args in
-    let pre = c .before .before .before .before .before .before .before .before .before .before .before .before .before .before .before .before .before .pre in
-    let long = c .before .before .before .before .before .before .before .before .before .before .before .before .before .before .if1 .left in
-    let digits = c .before .before .before .before .before .before .before .before .before .if3 .left in
-    let format = c .before .before .sweep-format in
-    λ some. envelope-swept (args .m .now) (pre .framed) (args .w .from) (args .at) (args .rows) long digits (args .edition) (format .result) (format .last .1 .1 .1 .1 .1 .1 .0) (format .ensures some)
+    let args = c .before .before .before .before .before .before .before .before .before .before .before .before .before .before .before .before .args in
+    let pre = c .before .before .before .before .before .before .before .before .before .before .before .before .before .before .before .before .pre in
+    let format = c .before .before .before .before .before .before .before .before .before .before .format-at in
+    let says = format .ensures (c .before .before .before .before .before .before .before .before .before .if3 .left) in
+    let long = c .before .before .before .before .before .before .before .before .before .before .before .before .before .if1 .left in
+    let swept = c .before .before .sweep-format in
+    λ some. envelope-swept (args .m .now) (pre .framed) (args .w .from) (args .at) (args .rows) (format .result) long says (args .edition) (swept .result) (swept .last .1 .1 .1 .1 .1 .1 .0) (swept .ensures some)
 
 pub sweep-envelope-spec : {M : Type 1} → statement M
 sweep-envelope-spec =
@@ -102,13 +80,9 @@ sweep-envelope-spec =
     returns
     given-up-requires-2
     returns-2
-    add-units
-    shared-slice-read-units
-    shared-slice-read-if3
+    format-at-requires
     given-up-requires-3
     returns-3
-    sub-f
-    cast-f
     standing-at-requires
     note-requires
     add-sweep-format

@@ -82,6 +82,26 @@ sweep-counted-requires c κs =
     let rule = sym (ap ruleFor (c .before .enum-told7 .given .1)) ∙ c .before .before .before .shape-in .ensures in
     due-as (args .m .now) (args .w) (args .at) (args .rows) (args .f) 9 (args .notes .now) (number-of (args .edition) (args .f) shape.Counted rule refl) (start .pre)
 
+enum-told-8 : tie.Need-enum-told-8
+enum-told-8 c = search needs
+
+sweep-elements-requires-3 : tie.Need-sweep-elements-requires-3
+sweep-elements-requires-3 c κs =
+    let start = c .before .before .before .before .before .before in
+    let args = start .args in
+    let rule = sym (ap ruleFor (c .before .enum-told8 .given .1)) ∙ c .before .before .before .shape-in .ensures in
+    (refl, due-as (args .m .now) (args .w) (args .at) (args .rows) (args .f) 12 (args .notes .now) (number-of (args .edition) (args .f) shape.Elements12 rule refl) (start .pre))
+
+enum-told-9 : tie.Need-enum-told-9
+enum-told-9 c = search needs
+
+sweep-count-only-requires : tie.Need-sweep-count-only-requires
+sweep-count-only-requires c κs =
+    let start = c .before .before .before .before .before .before in
+    let args = start .args in
+    let rule = sym (ap ruleFor (c .before .enum-told9 .given .1)) ∙ c .before .before .before .shape-in .ensures in
+    due-as (args .m .now) (args .w) (args .at) (args .rows) (args .f) 15 (args .notes .now) (number-of (args .edition) (args .f) shape.CountOnly rule refl) (start .pre)
+
 given-up-requires : tie.Need-given-up-requires
 given-up-requires c κs = search needs
 
@@ -162,8 +182,30 @@ returns-7 c =
     λ some.
     swept-as (args .m .now) (args .w) (args .at) (args .rows) (args .f) 9 (format .last .1 .1 .1 .1 .0) (number-of (args .edition) (args .f) shape.Counted rule refl) (args .edition) shape.Counted (format .result) refl rule (format .ensures some)
 
+same-length-8 : tie.Need-same-length-8
+same-length-8 c = search needs
+
 returns-8 : tie.Need-returns-8
-returns-8 c = λ some. absurd (omega (arith, c .given-up .ensures))
+returns-8 c =
+    let args = c .before .before .before .before .before .before .before .before .before .args in
+    let format = c .before .before .sweep-elements3 in
+    let rule = sym (ap ruleFor (c .before .before .before .before .enum-told8 .given .1)) ∙ c .before .before .before .before .before .before .shape-in .ensures in
+    λ some.
+    swept-as (args .m .now) (args .w) (args .at) (args .rows) (args .f) 12 (format .last .1 .1 .1 .1 .1 .1 .0) (number-of (args .edition) (args .f) shape.Elements12 rule refl) (args .edition) shape.Elements12 (format .result) refl rule (format .ensures some)
+
+same-length-9 : tie.Need-same-length-9
+same-length-9 c = search needs
+
+returns-9 : tie.Need-returns-9
+returns-9 c =
+    let args = c .before .before .before .before .before .before .before .before .before .args in
+    let format = c .before .before .sweep-count-only in
+    let rule = sym (ap ruleFor (c .before .before .before .before .enum-told9 .given .1)) ∙ c .before .before .before .before .before .before .shape-in .ensures in
+    λ some.
+    swept-as (args .m .now) (args .w) (args .at) (args .rows) (args .f) 15 (format .last .1 .1 .1 .1 .0) (number-of (args .edition) (args .f) shape.CountOnly rule refl) (args .edition) shape.CountOnly (format .result) refl rule (format .ensures some)
+
+returns-10 : tie.Need-returns-10
+returns-10 c = λ some. absurd (omega (arith, c .given-up .ensures))
 
 pub sweep-format-spec : {M : Type 1} → statement M
 sweep-format-spec =
@@ -184,6 +226,10 @@ sweep-format-spec =
     sweep-text-requires
     enum-told-7
     sweep-counted-requires
+    enum-told-8
+    sweep-elements-requires-3
+    enum-told-9
+    sweep-count-only-requires
     given-up-requires
     same-length
     returns
@@ -199,4 +245,8 @@ sweep-format-spec =
     returns-6
     same-length-7
     returns-7
-    returns-8)
+    same-length-8
+    returns-8
+    same-length-9
+    returns-9
+    returns-10)
