@@ -28,6 +28,14 @@ static bool is_capital(uint8_t byte)
     return byte >= 'A' && byte <= 'Z';
 }
 
+/* 02, No. 3: the caller picks the edition, by a year. From 2025 on it is that of
+ * 2025, which has formats 12 and 15 beside those of document 01. */
+static bool knows_format(uint32_t year, uint32_t format)
+{
+    bool is_of_2025 = format == 12 || format == 15;
+    return (format >= 1 && format <= 9 && format != 8) || (is_of_2025 && year >= 2025);
+}
+
 /* ---- Rows (first, since the bodies below note them) ---- */
 
 enum { MOST_BYTES = 4096, MOST_ROWS = 1024, NUMBERS_OF_A_ROW = 5 };
@@ -82,11 +90,11 @@ static size_t piece_end(const uint8_t *message, size_t start, size_t end, uint8_
     return at;
 }
 
-/* A 09 header value of least to greatest permitted bytes, which GS must follow.
- * The answer is the value's end, or 0 if it isn't so. */
-static size_t header_value_09(const uint8_t *message, size_t length, size_t start,
-                              size_t least, size_t greatest, bool (*permitted)(uint8_t),
-                              row_list *rows)
+/* A header value of 09 or 15, of least to greatest permitted bytes, which GS must
+ * follow. The answer is the value's end, or 0 if it isn't so. */
+static size_t header_value(const uint8_t *message, size_t length, size_t start,
+                           size_t least, size_t greatest, bool (*permitted)(uint8_t),
+                           uint32_t format, row_list *rows)
 {
     size_t end = start;
     while (end < length && permitted(message[end])) {
@@ -98,37 +106,43 @@ static size_t header_value_09(const uint8_t *message, size_t length, size_t star
     if (end == length || message[end] != GS) {
         return 0;
     }
-    add_row(rows, KIND_HEADER_VALUE, 9, start, end);
+    add_row(rows, KIND_HEADER_VALUE, format, start, end);
     return end;
 }
 
+/* The count that ends a header of 09 or 15, "1 to 15 digits", and its GS. */
+static size_t header_count(const uint8_t *message, size_t length, size_t start,
+                           uint32_t format, row_list *rows, uint64_t *payload_length)
+{
+    size_t end = header_value(message, length, start, 1, 15, is_digit, format, rows);
+    if (end == 0) {
+        return 0;
+    }
+    uint64_t count = 0;
+    for (size_t i = start; i < end; i++) {
+        count = count * 10 + (uint64_t)(message[i] - '0');
+    }
+    *payload_length = count;
+    return end + 1;
+}
+
 /* "09: GS type GS compression GS count GS": type 1 to 30 plain bytes,
- * compression 0 to 30, count 1 to 15 digits. */
+ * compression 0 to 30, then the count. */
 static size_t header_09(const uint8_t *message, size_t length, size_t at,
                         row_list *rows, uint64_t *payload_length)
 {
     if (at == length || message[at] != GS) {
         return 0;
     }
-    size_t type_end = header_value_09(message, length, at + 1, 1, 30, is_plain, rows);
+    size_t type_end = header_value(message, length, at + 1, 1, 30, is_plain, 9, rows);
     if (type_end == 0) {
         return 0;
     }
-    size_t compression_end = header_value_09(message, length, type_end + 1, 0, 30, is_plain, rows);
+    size_t compression_end = header_value(message, length, type_end + 1, 0, 30, is_plain, 9, rows);
     if (compression_end == 0) {
         return 0;
     }
-    size_t count_start = compression_end + 1;
-    size_t count_end = header_value_09(message, length, count_start, 1, 15, is_digit, rows);
-    if (count_end == 0) {
-        return 0;
-    }
-    uint64_t count = 0;
-    for (size_t i = count_start; i < count_end; i++) {
-        count = count * 10 + (uint64_t)(message[i] - '0');
-    }
-    *payload_length = count;
-    return count_end + 1;
+    return header_count(message, length, compression_end + 1, 9, rows, payload_length);
 }
 
 enum { VERSION_02, VERSION_96 };
@@ -179,7 +193,7 @@ static bool body_permits(uint32_t format, uint8_t byte)
         return is_plain(byte) || byte == FS || byte == GS || byte == US;
     case 7:
         return byte < 0x80 && !is_control(byte);
-    default: /* 01, 05, 06 */
+    default: /* 01, 05, 06, 12 */
         return is_plain(byte) || byte == GS;
     }
 }
@@ -263,17 +277,43 @@ static bool element_06_stands(const uint8_t *message, size_t start, size_t end)
     return at < end && is_capital(message[at]) && at + 1 < end;
 }
 
-/* "05, 06: elements split by GS." If they don't stand, *place is where the first
- * wrong one begins (02, No. 1); an empty body is one empty element. */
+/* 02, No. 3: an element of 12 has three capitals or digits, a space, and at least
+ * one byte behind it. */
+static bool element_12_stands(const uint8_t *message, size_t start, size_t end)
+{
+    if (end - start < 5) {
+        return false;
+    }
+    for (size_t i = start; i < start + 3; i++) {
+        if (!is_capital(message[i]) && !is_digit(message[i])) {
+            return false;
+        }
+    }
+    return message[start + 3] == ' ';
+}
+
+static bool element_stands(const uint8_t *message, size_t start, size_t end, uint32_t format)
+{
+    switch (format) {
+    case 5:
+        return element_05_stands(message, start, end);
+    case 6:
+        return element_06_stands(message, start, end);
+    default: /* 12 */
+        return element_12_stands(message, start, end);
+    }
+}
+
+/* "05, 06: elements split by GS", and those of 12 too. If they don't stand, *place
+ * is where the first wrong one begins (02, No. 1); an empty body is one empty
+ * element. */
 static bool elements_stand(const uint8_t *message, size_t start, size_t end,
                            uint32_t format, row_list *rows, size_t *place)
 {
     size_t at = start;
     for (;;) {
         size_t element_end = piece_end(message, at, end, GS);
-        bool stands = format == 5 ? element_05_stands(message, at, element_end)
-                                  : element_06_stands(message, at, element_end);
-        if (!stands) {
+        if (!element_stands(message, at, element_end, format)) {
             *place = at;
             return false;
         }
@@ -455,17 +495,18 @@ static outcome refused(uint32_t number, size_t place)
 
 /* "In an envelope: 6, 7, 8; then 9 for format 09; for 01 and 03 to 07 the body
  * runs to the first RS: 12, then 10, then 11; for 02: 11 if empty, else 10."
- * By 02, No. 1, format 01 has 30 to 33 in place of 11. Two digits are known to
- * stand at `indicator`. The answer is 0 or the number; with 0, *next is the
- * offset after the envelope, else *place is the refusal's place. */
-static uint32_t read_envelope(const uint8_t *message, size_t length, size_t indicator,
-                              bool is_first, row_list *rows, uint32_t *format_read,
-                              size_t *next, size_t *place)
+ * By 02, No. 1, format 01 has 30 to 33 in place of 11. By 02, No. 3, which
+ * formats there are depends on the edition, 12 goes as 06 and 15 as 09. Two
+ * digits are known to stand at `indicator`. The answer is 0 or the number; with
+ * 0, *next is the offset after the envelope, else *place is the refusal's place. */
+static uint32_t read_envelope(uint32_t year, const uint8_t *message, size_t length,
+                              size_t indicator, bool is_first, row_list *rows,
+                              uint32_t *format_read, size_t *next, size_t *place)
 {
-    *place = indicator; /* but for 30 to 33, and for 11 in 05 and 06 */
+    *place = indicator; /* but for 30 to 33, and for 11 in 05, 06 and 12 */
     uint32_t format = (uint32_t)(message[indicator] - '0') * 10 +
                       (uint32_t)(message[indicator + 1] - '0');
-    if (format == 0 || format == 8 || format >= 10) {
+    if (!knows_format(year, format)) {
         return 6;
     }
     if ((format == 1 || format == 2) && !is_first) {
@@ -488,10 +529,14 @@ static uint32_t read_envelope(const uint8_t *message, size_t length, size_t indi
         break;
     case 5:
     case 6:
+    case 12:
         body = header < length && message[header] == GS ? header + 1 : 0;
         break;
     case 9:
         body = header_09(message, length, header, rows, &payload_length);
+        break;
+    case 15: /* the count stands right behind the indicator */
+        body = header_count(message, length, header, format, rows, &payload_length);
         break;
     default: /* 02 and 07 have no header */
         break;
@@ -500,7 +545,7 @@ static uint32_t read_envelope(const uint8_t *message, size_t length, size_t indi
         return 8;
     }
 
-    if (format == 9) {
+    if (format == 9 || format == 15) {
         /* "The 09 payload and its RS don't fit, or another byte is where the RS is due." */
         if (payload_length >= length - body) {
             return 9;
@@ -547,6 +592,7 @@ static uint32_t read_envelope(const uint8_t *message, size_t length, size_t indi
         return segments_stand(message, body, end, format, rows) ? 0 : 11;
     case 5:
     case 6:
+    case 12:
         return elements_stand(message, body, end, format, rows, place) ? 0 : 11;
     default: /* 07 */
         add_row(rows, KIND_BODY, format, body, end);
@@ -557,7 +603,7 @@ static uint32_t read_envelope(const uint8_t *message, size_t length, size_t indi
 /* "Order: 1, 2, then envelopes from the left. At a boundary after an envelope:
  * 4, then EOT (with 5), then 3. Before the first envelope an end or an EOT is 3.
  * Only when all envelopes stand: 13, then 14." This is all but 14. */
-static outcome read_message(const uint8_t *message, size_t length, row_list *rows)
+static outcome read_message(uint32_t year, const uint8_t *message, size_t length, row_list *rows)
 {
     static const uint8_t opening[4] = {'[', ')', '>', RS};
 
@@ -592,7 +638,7 @@ static outcome read_message(const uint8_t *message, size_t length, row_list *row
         size_t next = at;
         size_t place = at;
         rows->envelope = envelopes;
-        uint32_t number = read_envelope(message, length, at, envelopes == 0, rows, &format,
+        uint32_t number = read_envelope(year, message, length, at, envelopes == 0, rows, &format,
                                         &next, &place);
         if (number != 0) {
             return refused(number, place);
@@ -613,11 +659,11 @@ static outcome read_message(const uint8_t *message, size_t length, row_list *row
 
 /* "A refusal changes no number of the table." "On acceptance numbers past the
  * last row stay as they were." */
-reference_reading reference_read(const uint8_t *message, size_t message_length,
+reference_reading reference_read(uint32_t edition, const uint8_t *message, size_t message_length,
                                  uint32_t *table, size_t table_length)
 {
     row_list rows;
-    outcome result = read_message(message, message_length, &rows);
+    outcome result = read_message(edition, message, message_length, &rows);
 
     /* 02, No. 9: a table has room for a fifth of its numbers, rounded down. */
     if (result.number == 0 && rows.count > table_length / NUMBERS_OF_A_ROW) {
@@ -675,7 +721,7 @@ static void put_before_row(candidate *message, uint32_t kind, uint32_t format, u
 {
     switch (kind) {
     case KIND_HEADER_VALUE:
-        if (format == 1 || format == 9) {
+        if (format == 1 || format == 9) { /* none before the count of 15 */
             put(message, GS);
         }
         break;
@@ -700,7 +746,7 @@ static void put_before_row(candidate *message, uint32_t kind, uint32_t format, u
         put(message, US);
         break;
     case KIND_BODY:
-        if (format == 9) {
+        if (format == 9 || format == 15) {
             put(message, GS);
         }
         break;
@@ -772,7 +818,7 @@ static bool same_rows(const row_list *read, const uint8_t *message,
 /* "Refusals, in order: 20 .. 21 .. 22 .. They have no place and change no byte.
  * On success bytes past the count stay as they were." By 02, No. 9, 20 asks for a
  * multiple of five, and rows whose ordinals aren't true are 21. */
-reference_written reference_write(const uint8_t *data, size_t data_length,
+reference_written reference_write(uint32_t edition, const uint8_t *data, size_t data_length,
                                   const uint32_t *rows, size_t rows_length,
                                   uint8_t *output, size_t output_length)
 {
@@ -795,7 +841,8 @@ reference_written reference_write(const uint8_t *data, size_t data_length,
     candidate message;
     lay_out(&message, data, rows, count);
     row_list read;
-    if (message.too_long || read_message(message.bytes, message.length, &read).number != 0 ||
+    if (message.too_long ||
+        read_message(edition, message.bytes, message.length, &read).number != 0 ||
         !same_rows(&read, message.bytes, rows, count, data)) {
         answer.number = 21;
         return answer;
@@ -816,11 +863,12 @@ reference_written reference_write(const uint8_t *data, size_t data_length,
 
 /* "For a refused message (read with ample room) or an absent row it is the empty
  * part at the message's start." */
-reference_part reference_part_of(const uint8_t *message, size_t message_length, size_t row)
+reference_part reference_part_of(uint32_t edition, const uint8_t *message, size_t message_length,
+                                 size_t row)
 {
     reference_part part = {0, 0};
     row_list rows;
-    if (read_message(message, message_length, &rows).number == 0 && row < rows.count) {
+    if (read_message(edition, message, message_length, &rows).number == 0 && row < rows.count) {
         part.start = rows.kept[row].start;
         part.length = rows.kept[row].length;
     }
