@@ -6,7 +6,8 @@
  * `differential SEED 1 NUMBER` repeats one. Answers and all lent memory are
  * compared, with guard zones on both sides. Where the generator knows by
  * construction what the answer is, it is demanded of the library too, so that
- * an error that both sides share doesn't pass. The first difference ends the
+ * an error that both sides share doesn't pass. Every call is made by both
+ * editions, now and then by an odd year of each. The first difference ends the
  * run with status 1.
  *
  * With -DEMPTY_AS_NULL every second case lends the library a null pointer where
@@ -27,7 +28,8 @@ enum { MOST_BYTES = 4096, MOST_ROWS = 1024 };
 enum { ROW = 5, ORDINAL = 4, ROW_BYTES = ROW * sizeof(uint32_t) };
 
 _Static_assert(ZIELORAD_ROW == ROW && ZIELORAD_LONGEST == MOST_BYTES &&
-               ZIELORAD_MOST_ROWS == MOST_ROWS && ZIELORAD_TABLE == ROW * MOST_ROWS,
+               ZIELORAD_MOST_ROWS == MOST_ROWS && ZIELORAD_TABLE == ROW * MOST_ROWS &&
+               ZIELORAD_2005 == 2005 && ZIELORAD_2025 == 2025,
                "the header states the numbers of documents 01 and 02");
 
 /* ---- Chance: splitmix64 ---- */
@@ -86,6 +88,18 @@ static uint8_t any_control(void)
 {
     static const uint8_t controls[5] = {EOT, FS, GS, RS, US};
     return controls[below(5)];
+}
+
+/* A year by which the edition of 2005 counts, or that of 2025 (02, No. 3): mostly
+ * its own, else one next to where the editions meet or far off. */
+static uint32_t some_year(bool is_2025)
+{
+    static const uint32_t before[] = {0, 1, 2004, 2006, 2024, 2024};
+    static const uint32_t from[] = {2026, 2026, 65536 + 2005, 0x7FFFFFFF, 0x80000000, 0xFFFFFFFF};
+    if (!one_in(8)) {
+        return is_2025 ? ZIELORAD_2025 : ZIELORAD_2005;
+    }
+    return is_2025 ? from[below(6)] : before[below(6)];
 }
 
 /* ---- Lent memory with guard zones ---- */
@@ -200,6 +214,7 @@ static const struct {
 
 static uint64_t run_seed;
 static uint64_t case_number;
+static uint32_t year; /* of the call that is made */
 static unsigned case_kind;
 static uint64_t cases_run[CASE_KINDS];
 static uint64_t reads, writes, parts, written_back, read_back;
@@ -208,6 +223,7 @@ enum { NUMBERS = 34, FIELDS = 15 };
 
 static uint64_t numbers_seen[NUMBERS];
 static uint64_t faults_made[3][FIELDS]; /* 31, 32 and 33, by the field that has it */
+static uint64_t misses_of_12[NUMBERS], misses_of_15[NUMBERS]; /* near misses of these formats */
 
 /* The ways in which ordinals are made false. */
 enum {
@@ -281,8 +297,9 @@ static void print_rows(const char *name, const uint32_t *numbers, size_t length)
 
 static void print_heading(const char *what)
 {
-    printf("DIFFERENCE: %s\nseed %llu, case %llu (%s)\n", what, (unsigned long long)run_seed,
-           (unsigned long long)case_number, case_kinds[case_kind].name);
+    printf("DIFFERENCE: %s\nseed %llu, case %llu (%s), year %u\n", what,
+           (unsigned long long)run_seed, (unsigned long long)case_number,
+           case_kinds[case_kind].name, year);
 }
 
 static void print_memory_difference(const char *name, const arena *library, const arena *reference)
@@ -300,15 +317,32 @@ static void print_memory_difference(const char *name, const arena *library, cons
 
 /* ---- Comparing the three operations ---- */
 
-/* What the generator knows by construction. */
+/* What the generator knows by construction, by the edition of 2025. */
 typedef struct {
     bool number_known, place_known;
     uint32_t number, place;
     const uint32_t *rows; /* or null */
     uint32_t envelopes, row_count;
+    size_t first_of_2025; /* the first envelope of format 12 or 15, or 0 if there is none */
 } knowledge;
 
 static const knowledge nothing_known = {0};
+
+/* The same by the edition of 2005. It refuses the first envelope of a format that
+ * it doesn't know, unless something before that is refused; 13 and 14 come after
+ * all envelopes. A refused message has no rows. */
+static knowledge known_by_2005(const knowledge *known)
+{
+    bool is_of_all = known->number == 0 || known->number == 13 || known->number == 14;
+    bool is_before = !is_of_all && (known->number <= 2 || known->place < known->first_of_2025);
+    knowledge changed = *known;
+    if (known->number_known && known->first_of_2025 != 0 && !is_before) {
+        changed.number = 6;
+        changed.place = (uint32_t)known->first_of_2025;
+        changed.envelopes = changed.row_count = 0;
+    }
+    return changed;
+}
 
 static arena lent_message, lent_data, lent_rows;
 static arena library_table, reference_table, library_output, reference_output;
@@ -346,17 +380,17 @@ static _Noreturn void fail_read(const char *what, const uint8_t *message, size_t
 }
 
 /* Reads with both and compares; what is accepted is written back. */
-static void compare_read(const uint8_t *message, size_t length, size_t table_length,
-                         const knowledge *known)
+static zielorad_reading compare_read_by(const uint8_t *message, size_t length, size_t table_length,
+                                        const knowledge *known)
 {
     uint8_t *input = lend_message(&lent_message, message, length);
     size_t table_bytes = table_length * sizeof(uint32_t);
     uint32_t *table = (uint32_t *)(void *)lend(&library_table, table_bytes, 0);
     uint32_t *expected = (uint32_t *)(void *)lend(&reference_table, table_bytes, 0);
 
-    zielorad_reading a = zielorad_read(lent_or_null(input, length), length,
+    zielorad_reading a = zielorad_read(year, lent_or_null(input, length), length,
                                        lent_or_null(table, table_length), table_length);
-    reference_reading b = reference_read(given(message, length), length,
+    reference_reading b = reference_read(year, given(message, length), length,
                                          table_length == 0 ? NULL : expected, table_length);
     reads++;
     see_number(a.number);
@@ -396,7 +430,7 @@ static void compare_read(const uint8_t *message, size_t length, size_t table_len
 
     if (a.number == 0) {
         uint8_t *output = lend(&library_output, length + 1, below(16));
-        zielorad_written back = zielorad_write(input, length, table, (size_t)a.rows * ROW,
+        zielorad_written back = zielorad_write(year, input, length, table, (size_t)a.rows * ROW,
                                                output, length);
         written_back++;
         if (back.number != 0 || back.count != length || memcmp(output, message, length) != 0) {
@@ -409,6 +443,35 @@ static void compare_read(const uint8_t *message, size_t length, size_t table_len
             !same_memory(&library_table, &reference_table)) {
             fail_read("writing back changed other memory", message, length, table_length, a, b);
         }
+    }
+    return a;
+}
+
+/* The editions differ only where that of 2005 refuses format 12 or 15. */
+static bool may_differ(const uint8_t *message, zielorad_reading by_2005, zielorad_reading by_2025)
+{
+    if (by_2005.number == by_2025.number && by_2005.place == by_2025.place &&
+        by_2005.envelopes == by_2025.envelopes && by_2005.rows == by_2025.rows) {
+        return true;
+    }
+    return by_2005.number == 6 && message[by_2005.place] == '1' &&
+           (message[by_2005.place + 1] == '2' || message[by_2005.place + 1] == '5');
+}
+
+static void compare_read(const uint8_t *message, size_t length, size_t table_length,
+                         const knowledge *known)
+{
+    knowledge known_earlier = known_by_2005(known);
+    year = some_year(false);
+    zielorad_reading by_2005 = compare_read_by(message, length, table_length, &known_earlier);
+    year = some_year(true);
+    zielorad_reading by_2025 = compare_read_by(message, length, table_length, known);
+    if (!may_differ(message, by_2005, by_2025)) {
+        print_heading("the editions, where they are the same");
+        print_bytes("message", message, length);
+        printf("2005: number %u, place %u; 2025: number %u, place %u\n", by_2005.number,
+               by_2005.place, by_2025.number, by_2025.place);
+        exit(1);
     }
 }
 
@@ -429,8 +492,8 @@ static _Noreturn void fail_write(const char *what, const uint8_t *data, size_t d
 enum { NOT_KNOWN = 99 };
 
 /* Writes with both and compares; what is written is read back. */
-static void compare_write(const uint8_t *data, size_t data_length, const uint32_t *rows,
-                          size_t rows_length, size_t output_length, uint32_t known_number)
+static void compare_write_by(const uint8_t *data, size_t data_length, const uint32_t *rows,
+                             size_t rows_length, size_t output_length, uint32_t known_number)
 {
     size_t shift = below(16);
     uint8_t *input = lend(&lent_data, data_length, shift);
@@ -445,10 +508,10 @@ static void compare_write(const uint8_t *data, size_t data_length, const uint32_
     uint8_t *output = lend(&library_output, output_length, shift);
     uint8_t *expected = lend(&reference_output, output_length, shift);
 
-    zielorad_written a = zielorad_write(lent_or_null(input, data_length), data_length,
+    zielorad_written a = zielorad_write(year, lent_or_null(input, data_length), data_length,
                                         lent_or_null(numbers, rows_length), rows_length,
                                         lent_or_null(output, output_length), output_length);
-    reference_written b = reference_write(given(data, data_length), data_length,
+    reference_written b = reference_write(year, given(data, data_length), data_length,
                                           given(rows, rows_length), rows_length,
                                           output_length == 0 ? NULL : expected, output_length);
     writes++;
@@ -481,7 +544,7 @@ static void compare_write(const uint8_t *data, size_t data_length, const uint32_
 
     if (a.number == 0) {
         uint32_t *table = (uint32_t *)(void *)lend(&library_table, rows_bytes, 0);
-        zielorad_reading back = zielorad_read(output, a.count, table, rows_length);
+        zielorad_reading back = zielorad_read(year, output, a.count, table, rows_length);
         read_back++;
         bool same = back.number == 0 && (size_t)back.rows * ROW == rows_length;
         for (size_t i = 0; same && i < rows_length; i += ROW) {
@@ -501,13 +564,27 @@ static void compare_write(const uint8_t *data, size_t data_length, const uint32_
     }
 }
 
+/* The number is known by the edition of 2025. By that of 2005 no message has rows
+ * of format 12 or 15, and rows that no message has by 2025 are none's by 2005. */
+static void compare_write(const uint8_t *data, size_t data_length, const uint32_t *rows,
+                          size_t rows_length, size_t output_length, bool is_of_2025,
+                          uint32_t known_number)
+{
+    bool is_21 = is_of_2025 && (known_number == 0 || known_number == 22);
+    year = some_year(false);
+    compare_write_by(data, data_length, rows, rows_length, output_length,
+                     is_21 ? 21 : known_number);
+    year = some_year(true);
+    compare_write_by(data, data_length, rows, rows_length, output_length, known_number);
+}
+
 /* The part of one row; known by construction if there are known rows. */
-static void compare_part(const uint8_t *message, size_t length, size_t row,
-                         const knowledge *known)
+static void compare_part_by(const uint8_t *message, size_t length, size_t row,
+                            const knowledge *known)
 {
     uint8_t *input = lend_message(&lent_message, message, length);
-    zielorad_part a = zielorad_part_of(lent_or_null(input, length), length, row);
-    reference_part b = reference_part_of(given(message, length), length, row);
+    zielorad_part a = zielorad_part_of(year, lent_or_null(input, length), length, row);
+    reference_part b = reference_part_of(year, given(message, length), length, row);
     parts++;
 
     const char *what = NULL;
@@ -533,6 +610,16 @@ static void compare_part(const uint8_t *message, size_t length, size_t row,
     }
 }
 
+static void compare_part(const uint8_t *message, size_t length, size_t row,
+                         const knowledge *known)
+{
+    knowledge known_earlier = known_by_2005(known);
+    year = some_year(false);
+    compare_part_by(message, length, row, &known_earlier);
+    year = some_year(true);
+    compare_part_by(message, length, row, known);
+}
+
 /* ---- Good messages ---- */
 
 enum { LABEL_ROOM = 12000, LABEL_ROWS = 2000 };
@@ -545,6 +632,7 @@ typedef struct {
     size_t row_count;
     size_t indicator; /* the last envelope's offset */
     size_t body;      /* the last envelope's body */
+    size_t first_of_2025; /* the first envelope of format 12 or 15, or 0 if there is none */
     bool closed;      /* format 02 took all the rest */
     uint8_t bytes[LABEL_ROOM + GUARD];
     uint32_t rows[ROW * LABEL_ROWS];
@@ -623,15 +711,24 @@ static void open_message(label *l)
     l->envelopes = 0;
     l->row_count = 0;
     l->closed = false;
-    l->indicator = l->body = 0;
+    l->indicator = l->body = l->first_of_2025 = 0;
     put_string(l, "[)>\x1E");
+}
+
+/* The formats that are read by the edition of 2025 alone (02, No. 3). */
+static bool is_of_2025(unsigned format)
+{
+    return format == 12 || format == 15;
 }
 
 static void put_indicator(label *l, unsigned format)
 {
     l->indicator = l->length;
-    put(l, '0');
-    put(l, (uint8_t)('0' + format));
+    if (is_of_2025(format) && l->first_of_2025 == 0) {
+        l->first_of_2025 = l->indicator;
+    }
+    put(l, (uint8_t)('0' + format / 10));
+    put(l, (uint8_t)('0' + format % 10));
     note_row(l, 1, format, l->indicator);
     l->body = l->length;
 }
@@ -839,20 +936,32 @@ static void good_03_04(label *l, unsigned format)
     end_envelope(l);
 }
 
+static uint8_t capital_or_digit(void)
+{
+    return one_in(3) ? one_of("AZ09") : one_in(2) ? any_digit() : any_capital();
+}
+
 static void put_element(label *l, unsigned format)
 {
     size_t start = l->length;
-    if (format == 5) {
-        put_digits(l, 2);
-    } else {
+    switch (format) {
+    case 5: put_digits(l, 2); break;
+    case 6:
         put_digits(l, below(4));
         put(l, any_capital());
+        break;
+    default: /* 12 */
+        for (unsigned i = 0; i < 3; i++) {
+            put(l, capital_or_digit());
+        }
+        put(l, ' ');
+        break;
     }
     put_text(l, some_length(1, 12));
     note_row(l, 3, format, start);
 }
 
-static void good_05_06(label *l, unsigned format)
+static void good_05_06_12(label *l, unsigned format)
 {
     put_indicator(l, format);
     put(l, GS);
@@ -904,28 +1013,43 @@ static void put_header_09(label *l, size_t type, size_t compression, const char 
     l->body = l->length;
 }
 
-static void put_good_header_09(label *l, unsigned long long count)
+/* A 15 header: nothing stands between the indicator and the count. */
+static void put_header_15(label *l, const char *count)
+{
+    put_indicator(l, 15);
+    put_string(l, count);
+    note_row(l, 2, 15, l->length - strlen(count));
+    put(l, GS);
+    l->body = l->length;
+}
+
+/* A header of 09 or 15 with a count of up to 15 digits. */
+static void put_good_counted_header(label *l, unsigned format, unsigned long long count)
 {
     char shortest[24], text[24];
     snprintf(shortest, sizeof shortest, "%llu", count);
     size_t zeros = one_in(2) ? 0 : some_length(0, 15 - strlen(shortest));
     memset(text, '0', zeros);
     strcpy(text + zeros, shortest);
-    put_header_09(l, some_length(1, 30), some_length(0, 30), text);
+    if (format == 15) {
+        put_header_15(l, text);
+    } else {
+        put_header_09(l, some_length(1, 30), some_length(0, 30), text);
+    }
 }
 
-static uint8_t byte_of_09(void)
+static uint8_t byte_of_payload(void)
 {
     return one_in(3) ? any_control() : any_byte();
 }
 
-static void good_09(label *l, size_t length)
+static void good_09_15(label *l, unsigned format, size_t length)
 {
-    put_good_header_09(l, length);
+    put_good_counted_header(l, format, length);
     while (length-- > 0) {
-        put(l, byte_of_09());
+        put(l, byte_of_payload());
     }
-    note_row(l, 7, 9, l->body);
+    note_row(l, 7, format, l->body);
     end_envelope(l);
 }
 
@@ -937,16 +1061,23 @@ static void good_envelope(label *l, unsigned format)
     case 3:
     case 4: good_03_04(l, format); break;
     case 5:
-    case 6: good_05_06(l, format); break;
+    case 6:
+    case 12: good_05_06_12(l, format); break;
     case 7: good_07(l, some_length(0, 30)); break;
-    default: good_09(l, some_length(0, 30)); break;
+    default: good_09_15(l, format, some_length(0, 30)); break;
     }
 }
 
+static unsigned format_of_2025(void)
+{
+    return one_in(2) ? 12 : 15;
+}
+
+/* Mostly one that both editions have, so that each has its good messages. */
 static unsigned later_format(void)
 {
     static const uint8_t formats[] = {3, 4, 5, 6, 7, 9};
-    return formats[below(6)];
+    return one_in(4) ? format_of_2025() : formats[below(6)];
 }
 
 /* Good envelopes without 02 at the start of a message. */
@@ -961,7 +1092,7 @@ static void good_prefix(label *l, size_t envelopes)
 static void good_message(label *l)
 {
     open_message(l);
-    static const uint8_t first[] = {1, 1, 2, 3, 4, 5, 6, 7, 9};
+    static const uint8_t first[] = {1, 1, 2, 3, 4, 5, 6, 7, 9, 12, 15};
     size_t envelopes = one_in(2) ? 1 : between(2, 6);
     good_envelope(l, first[below(sizeof first)]);
     if (l->closed) {
@@ -975,13 +1106,14 @@ static void good_message(label *l)
 
 static knowledge known_good(const label *l)
 {
-    knowledge known = {true, true, 0, 0, l->rows, l->envelopes, (uint32_t)l->row_count};
+    knowledge known = {true, true, 0, 0, l->rows, l->envelopes, (uint32_t)l->row_count,
+                       l->first_of_2025};
     return known;
 }
 
-static knowledge known_refusal(uint32_t number, size_t place)
+static knowledge known_refusal(const label *l, uint32_t number, size_t place)
 {
-    knowledge known = {true, true, number, (uint32_t)place, NULL, 0, 0};
+    knowledge known = {true, true, number, (uint32_t)place, NULL, 0, 0, l->first_of_2025};
     return known;
 }
 
@@ -1006,7 +1138,7 @@ static void read_good(label *l, size_t table_length)
 {
     knowledge known = known_good(l);
     if (table_length / ROW < l->row_count) {
-        known = known_refusal(14, 0);
+        known = known_refusal(l, 14, 0);
     }
     compare_read(l->bytes, l->length, table_length, &known);
 }
@@ -1245,10 +1377,13 @@ static void miss_6(label *l, size_t *place)
     good_prefix(l, below(4));
     *place = l->length;
     if (one_in(3)) {
-        put(l, '0');
-        put(l, one_of("08"));
+        put_string(l, one_in(2) ? "00" : "08");
+    } else if (one_in(2)) { /* beside those of 2025 */
+        static const char *const beside[] = {"10", "11", "13", "14", "16", "17", "19", "20",
+                                             "22", "25", "51", "21", "52", "92", "95", "99"};
+        put_string(l, beside[below(16)]);
     } else {
-        put(l, (uint8_t)between('1', '9'));
+        put(l, (uint8_t)between('2', '9'));
         put(l, any_digit());
     }
     put_tail(l);
@@ -1279,11 +1414,50 @@ static void cut_header(label *l)
     l->length = between(l->indicator + 2, l->body - 1);
 }
 
+/* A count that isn't 1 to 15 digits, or not right behind the indicator of 15. */
+static void miss_8_in_15(label *l)
+{
+    size_t payload = below(20);
+    char count[24];
+    snprintf(count, sizeof count, "%zu", payload);
+    switch (below(6)) {
+    case 0: put_header_15(l, ""); break;
+    case 1:
+        snprintf(count, sizeof count, "%016zu", payload);
+        if (one_in(3)) {
+            memset(count, '9', 16);
+        }
+        put_header_15(l, count);
+        break;
+    case 2:
+        snprintf(count, sizeof count, "%03zu", payload);
+        count[below(3)] = (char)one_of("-+ ./:Ax\x1E\x1F");
+        put_header_15(l, count);
+        break;
+    case 3: /* a mark before the count, as 09 has it */
+        put_good_counted_header(l, 15, payload);
+        insert_byte(l, l->indicator + 2, one_in(2) ? GS : one_of("\x1E\x1C\x1F\x04 A"));
+        break;
+    case 4: /* another byte where the GS is due */
+        put_good_counted_header(l, 15, payload);
+        l->bytes[l->body - 1] = one_of("\x1E\x1C\x1F\x04.");
+        break;
+    default:
+        put_good_counted_header(l, 15, payload);
+        cut_header(l);
+        return;
+    }
+    while (payload-- > 0) {
+        put(l, byte_of_payload());
+    }
+    put_tail(l);
+}
+
 static void miss_8(label *l, size_t *place)
 {
     good_prefix(l, below(3));
     *place = l->length;
-    static const uint8_t formats[] = {3, 4, 5, 6, 9, 9, 9};
+    static const uint8_t formats[] = {3, 4, 5, 6, 9, 9, 9, 12, 15, 15};
     unsigned format = l->envelopes == 0 && one_in(5) ? 1 : formats[below(sizeof formats)];
     size_t at;
     switch (format) {
@@ -1331,14 +1505,20 @@ static void miss_8(label *l, size_t *place)
         break;
     case 5:
     case 6:
+    case 12:
         put_indicator(l, format);
         if (one_in(4)) {
             return;
         }
-        put(l, no_byte_of("\x1D"));
-        put_element(l, format);
+        if (one_in(4)) { /* the first element right behind the indicator */
+            put_element(l, format);
+        } else {
+            put(l, no_byte_of("\x1D"));
+            put_element(l, format);
+        }
         put_tail(l);
         break;
+    case 15: miss_8_in_15(l); break;
     default: {
         size_t payload = below(20);
         char count[24];
@@ -1361,21 +1541,21 @@ static void miss_8(label *l, size_t *place)
             put_header_09(l, between(1, 30), below(31), count);
             break;
         case 6: /* no plain byte in a value */
-            put_good_header_09(l, payload);
+            put_good_counted_header(l, 9, payload);
             at = l->rows[ROW * (l->row_count - (one_in(2) ? 3 : 2)) + 2]; /* type or compression */
             insert_byte(l, at, one_of("\x1E\x1C\x1F\x7F\x04\xFF"));
             break;
         case 7: /* another byte where a GS is due */
-            put_good_header_09(l, payload);
+            put_good_counted_header(l, 9, payload);
             l->bytes[one_in(2) ? l->indicator + 2 : l->body - 1] = one_of("\x1E\x1C\x1F\x04.");
             break;
         default:
-            put_good_header_09(l, payload);
+            put_good_counted_header(l, 9, payload);
             cut_header(l);
             return;
         }
         while (payload-- > 0) {
-            put(l, byte_of_09());
+            put(l, byte_of_payload());
         }
         put_tail(l);
         break;
@@ -1408,10 +1588,10 @@ static void miss_9(label *l, size_t *place)
     case 4: is_whole = false; break;
     default: count = payload + between(1, 3); break;
     }
-    put_good_header_09(l, count);
+    put_good_counted_header(l, one_in(2) ? 9 : 15, count);
     size_t stop = is_whole ? payload : between(0, payload);
     for (size_t i = 0; i < stop; i++) {
-        put(l, byte_of_09());
+        put(l, byte_of_payload());
     }
     if (!is_whole) {
         return;
@@ -1599,14 +1779,22 @@ static void put_wrong_element(label *l, unsigned format)
     static const char *const wrong_05[] = {"", "1", "12", "A12", "1A2", "AB", " 12", "/12", "1:3"};
     static const char *const wrong_06[] = {
         "", "1", "A", "12A", "123", "1234A1", "a1", "1a1", " A1", "123A", "1@2", "[A1", "0000A1"};
-    put_string(l, format == 5 ? wrong_05[below(9)] : wrong_06[below(13)]);
+    static const char *const wrong_12[] = {
+        "", "P", "PNR", "PNR ", "123 ", "PNR1", "PNR12", "PNRS 1", "PN 12", "PN  1", "pnr 1",
+        "Pnr 1", "PNr 1", " PNR 1", "    1", "PNR-1", "PNR_123", "@NR 1", "P[R 1", "PN/ 1", "PN: 1",
+        "PN` 1", "{NR 1", "PNR!1", "PNR~1"};
+    switch (format) {
+    case 5: put_string(l, wrong_05[below(9)]); break;
+    case 6: put_string(l, wrong_06[below(13)]); break;
+    default: put_string(l, wrong_12[below(25)]); break;
+    }
 }
 
-/* A good envelope, or in 01, 05 and 06 one whose body may break the rules: what
+/* A good envelope, or in 01, 05, 06 and 12 one whose body may break the rules: what
  * stands before those faults isn't moved by them. */
 static void any_envelope(label *l, unsigned format)
 {
-    if ((format != 1 && format != 5 && format != 6) || one_in(2)) {
+    if ((format != 1 && format != 5 && format != 6 && format != 12) || one_in(2)) {
         good_envelope(l, format);
         return;
     }
@@ -1629,8 +1817,8 @@ static void miss_10(label *l, size_t *place)
 {
     good_prefix(l, below(3));
     *place = l->length;
-    static const uint8_t formats[] = {3, 4, 5, 6, 7};
-    unsigned format = l->envelopes == 0 && one_in(2) ? (unsigned)between(1, 2) : formats[below(5)];
+    static const uint8_t formats[] = {3, 4, 5, 6, 7, 12};
+    unsigned format = l->envelopes == 0 && one_in(2) ? (unsigned)between(1, 2) : formats[below(6)];
     any_envelope(l, format);
     size_t end = format == 2 ? l->length : l->length - 1;
     if (one_in(2) && end > l->body) {
@@ -1680,7 +1868,7 @@ static void miss_11_in_03_04(label *l, unsigned format)
 }
 
 /* Good elements, then a wrong one, whose start is the place; behind it either. */
-static void miss_11_in_05_06(label *l, unsigned format, size_t *place)
+static void miss_11_in_05_06_12(label *l, unsigned format, size_t *place)
 {
     put_indicator(l, format);
     put(l, GS);
@@ -1707,13 +1895,13 @@ static void miss_11(label *l, size_t *place)
     bool is_first = !one_in(3);
     good_prefix(l, is_first ? 0 : between(1, 2));
     *place = l->length;
-    static const uint8_t formats[] = {3, 4, 5, 5, 6, 6};
-    unsigned format = is_first && one_in(8) ? 2 : formats[below(6)];
+    static const uint8_t formats[] = {3, 4, 5, 5, 6, 6, 12, 12};
+    unsigned format = is_first && one_in(8) ? 2 : formats[below(8)];
     switch (format) {
     case 2: put_indicator(l, 2); return;
     case 3:
     case 4: miss_11_in_03_04(l, format); break;
-    default: miss_11_in_05_06(l, format, place); break;
+    default: miss_11_in_05_06_12(l, format, place); break;
     }
     put(l, RS);
     put_tail(l);
@@ -1723,8 +1911,8 @@ static void miss_12(label *l, size_t *place)
 {
     good_prefix(l, below(3));
     *place = l->length;
-    static const uint8_t formats[] = {3, 4, 5, 6, 7};
-    any_envelope(l, l->envelopes == 0 && one_in(3) ? 1 : formats[below(5)]);
+    static const uint8_t formats[] = {3, 4, 5, 6, 7, 12};
+    any_envelope(l, l->envelopes == 0 && one_in(3) ? 1 : formats[below(6)]);
     l->length = one_in(2) ? l->length - 1 : some_length(l->body, l->length - 1);
     size_t tail = below(5);
     while (tail-- > 0) {
@@ -1811,19 +1999,34 @@ static void miss_33(label *l, size_t *place)
     miss_field(l, place, 33);
 }
 
+/* Counts a miss of 8 to 12 by the format that it is in, if that is 12 or 15. The
+ * envelopes before the one at fault end before the place. */
+static void note_miss(const label *l, uint32_t number, size_t place)
+{
+    size_t at = place;
+    while (number == 11 && l->bytes[at - 1] != RS) { /* from an element to its indicator */
+        at--;
+    }
+    if (number >= 8 && number <= 12 && l->bytes[at] == '1') {
+        misses_of_12[number] += l->bytes[at + 1] == '2';
+        misses_of_15[number] += l->bytes[at + 1] == '5';
+    }
+}
+
 static void case_near_miss_read(void)
 {
     static void (*const misses[NUMBERS])(label *, size_t *) = {
         [2] = miss_2, [3] = miss_3, [4] = miss_4, [5] = miss_5, [6] = miss_6,
         [7] = miss_7, [8] = miss_8, [9] = miss_9, [10] = miss_10, [11] = miss_11,
         [12] = miss_12, [30] = miss_30, [31] = miss_31, [32] = miss_32, [33] = miss_33};
-    static const uint8_t draws[] = {2, 3, 4, 5, 6, 7, 8, 8, 8, 9, 9, 10, 10, 11, 11, 11, 12,
+    static const uint8_t draws[] = {2, 3, 4, 5, 6, 7, 8, 8, 8, 8, 9, 9, 9, 10, 10, 11, 11, 11, 12,
                                     30, 30, 30, 31, 31, 32, 32, 33, 33};
     label *l = &the_label;
     uint32_t number = draws[below(sizeof draws)];
     size_t place = 0;
     misses[number](l, &place);
-    knowledge known = known_refusal(number, place);
+    note_miss(l, number, place);
+    knowledge known = known_refusal(l, number, place);
     compare_read(l->bytes, l->length, one_in(2) ? between(0, 40) : 400, &known);
 }
 
@@ -1836,14 +2039,25 @@ static void fill_to(label *l, size_t length)
         good_02(l, length - l->length - 2);
         return;
     }
-    if (one_in(3)) {
+    if (one_in(6)) {
+        /* Indicator, four digits, GS; RS and EOT. */
+        size_t payload = length - l->length - 2 - 4 - 1 - 2;
+        char count[24];
+        snprintf(count, sizeof count, "%04zu", payload);
+        put_header_15(l, count);
+        while (payload-- > 0) {
+            put(l, byte_of_payload());
+        }
+        note_row(l, 7, 15, l->body);
+        end_envelope(l);
+    } else if (one_in(3)) {
         /* Indicator, two values of one byte, four digits, four GS; RS and EOT. */
         size_t payload = length - l->length - 2 - 4 - 2 - 4 - 2;
         char count[24];
         snprintf(count, sizeof count, "%04zu", payload);
         put_header_09(l, 1, 1, count);
         while (payload-- > 0) {
-            put(l, byte_of_09());
+            put(l, byte_of_payload());
         }
         note_row(l, 7, 9, l->body);
         end_envelope(l);
@@ -1870,7 +2084,7 @@ static void case_length_limit_read(void)
         open_message(l);
         l->length = one_in(2) ? 0 : l->length;
         put_odd_bytes(l, length - l->length);
-        knowledge known = length > MOST_BYTES ? known_refusal(1, 4096) : nothing_known;
+        knowledge known = length > MOST_BYTES ? known_refusal(l, 1, 4096) : nothing_known;
         compare_read(l->bytes, l->length, some_table(10), &known);
         return;
     }
@@ -1881,16 +2095,27 @@ static void case_length_limit_read(void)
     } else if (good) {
         read_good(l, some_table(l->row_count));
     } else {
-        knowledge known = known_refusal(1, 4096);
+        knowledge known = known_refusal(l, 1, 4096);
         compare_read(l->bytes, l->length, some_table(l->row_count), &known);
     }
 }
 
-/* A message with so many rows, by one of four ways, without its EOT. */
+/* A message with so many rows, by one of five ways, without its EOT. */
 static void message_of_rows(label *l, size_t row_count)
 {
     good_prefix(l, one_in(2) ? 0 : 1);
-    size_t way = below(4);
+    size_t way = one_in(8) ? 4 : below(4);
+    if (way == 4) { /* many empty envelopes of 15, three rows each, behind some of 07 */
+        while ((row_count - l->row_count) % 3 != 0) {
+            good_07(l, 0);
+        }
+        while (l->row_count < row_count) {
+            put_header_15(l, one_in(8) ? "00" : "0");
+            note_row(l, 7, 15, l->body);
+            end_envelope(l);
+        }
+        return;
+    }
     if (way == 3) { /* many empty envelopes of 07 */
         while (l->row_count + 2 < row_count) {
             good_07(l, 0);
@@ -1958,9 +2183,9 @@ static void case_row_limit_read(void)
     size_t table_length = one_in(2) ? ROW * between(1022, 1027) : some_table(row_count);
     knowledge known;
     if (!has_end) {
-        known = known_refusal(4, l->length);
+        known = known_refusal(l, 4, l->length);
     } else if (row_count > MOST_ROWS) {
-        known = known_refusal(13, 0);
+        known = known_refusal(l, 13, 0);
     } else {
         read_good(l, table_length);
         return;
@@ -1989,6 +2214,22 @@ static void random_weight(label *l)
     put_string(l, "\x1E\x04");
 }
 
+/* What formats 12 and 15 are made of, behind an indicator of theirs or next to it. */
+static void random_of_2025(label *l)
+{
+    open_message(l);
+    put_string(l, one_in(6) ? "1" : one_in(2) ? "12" : "15");
+    if (one_in(2)) {
+        put(l, GS);
+    }
+    for (size_t length = below(14); length > 0; length--) {
+        put(l, one_of("\x1D\x1E\x04" "0123  PNRn"));
+    }
+    if (one_in(2)) {
+        put_string(l, "\x1E\x04");
+    }
+}
+
 static void random_message(label *l)
 {
     open_message(l);
@@ -2015,8 +2256,9 @@ static void random_message(label *l)
     }
     if (way == 4) { /* an indicator where it is due */
         if (l->length > 6) {
-            l->bytes[4] = '0';
-            l->bytes[5] = (uint8_t)between('1', '9');
+            bool is_later = one_in(4);
+            l->bytes[4] = is_later ? '1' : '0';
+            l->bytes[5] = is_later ? one_of("25") : (uint8_t)between('1', '9');
         }
         if (one_in(2)) {
             put_string(l, "\x1E\x04");
@@ -2029,6 +2271,8 @@ static void case_random_read(void)
     label *l = &the_label;
     if (one_in(6)) {
         random_weight(l);
+    } else if (one_in(4)) {
+        random_of_2025(l);
     } else {
         random_message(l);
     }
@@ -2042,6 +2286,7 @@ enum { DATA_ROOM = 20000, NUMBERS_ROOM = 7500 };
 typedef struct {
     size_t data_length, rows_length;
     size_t message_length; /* of the message that true rows have */
+    bool is_of_2025;       /* some are of format 12 or 15 */
     uint8_t data[DATA_ROOM];
     uint32_t rows[NUMBERS_ROOM];
 } order;
@@ -2100,6 +2345,7 @@ static void make_order(order *o, const label *l)
     o->data_length = 0;
     o->rows_length = ROW * count;
     o->message_length = l->length;
+    o->is_of_2025 = l->first_of_2025 != 0;
     memcpy(o->rows, l->rows, ROW_BYTES * count);
     size_t way = below(4);
     if (way == 0) { /* the message itself */
@@ -2155,7 +2401,7 @@ static size_t some_output(size_t needed)
 static void write_true(order *o)
 {
     size_t output_length = some_output(o->message_length);
-    compare_write(o->data, o->data_length, o->rows, o->rows_length, output_length,
+    compare_write(o->data, o->data_length, o->rows, o->rows_length, output_length, o->is_of_2025,
                   output_length < o->message_length ? 22 : 0);
 }
 
@@ -2248,10 +2494,10 @@ static uint32_t spoil(order *o)
         row[0] = (uint32_t)below(9);
         return NOT_KNOWN;
     case 6:
-        row[1] = (uint32_t)below(11);
+        row[1] = (uint32_t)below(17);
         return NOT_KNOWN;
     case 7: { /* another format for all rows of one format */
-        uint32_t before = row[1], after = (uint32_t)between(1, 9);
+        uint32_t before = row[1], after = (uint32_t)between(1, 16);
         for (size_t i = 0; i < count; i++) {
             if (o->rows[ROW * i + 1] == before) {
                 o->rows[ROW * i + 1] = after;
@@ -2335,7 +2581,7 @@ static uint32_t spoil(order *o)
         o->rows_length = 0;
         while (rows_drawn-- > 0) {
             add_number(o, (uint32_t)below(9));
-            add_number(o, (uint32_t)below(11));
+            add_number(o, (uint32_t)below(17));
             uint32_t start = (uint32_t)between(0, o->data_length);
             add_number(o, start);
             add_number(o, (uint32_t)between(0, o->data_length - start));
@@ -2463,7 +2709,7 @@ static void case_false_write(void)
     order *o = &the_order;
     uint32_t known = one_in(6) ? faulty_rows(o) : spoilt_rows(o);
     compare_write(o->data, o->data_length, o->rows, o->rows_length, some_output(o->message_length),
-                  known);
+                  o->is_of_2025, known);
 }
 
 static void case_false_ordinals_write(void)
@@ -2471,7 +2717,7 @@ static void case_false_ordinals_write(void)
     order *o = &the_order;
     uint32_t known = one_in(5) ? four_wide_rows(o) : false_ordinals(o);
     compare_write(o->data, o->data_length, o->rows, o->rows_length, some_output(o->message_length),
-                  known);
+                  o->is_of_2025, known);
 }
 
 static void case_limit_write(void)
@@ -2485,7 +2731,7 @@ static void case_limit_write(void)
             write_true(o);
         } else { /* 21 stands before 22 */
             compare_write(o->data, o->data_length, o->rows, o->rows_length,
-                          some_output(o->message_length), 21);
+                          some_output(o->message_length), o->is_of_2025, 21);
         }
     } else {
         size_t row_count = between(1023, 1026);
@@ -2500,7 +2746,8 @@ static void case_limit_write(void)
             write_true(o);
         } else {
             compare_write(o->data, o->data_length, o->rows, o->rows_length,
-                          some_output(o->message_length), row_count <= MOST_ROWS ? 21 : 20);
+                          some_output(o->message_length), o->is_of_2025,
+                          row_count <= MOST_ROWS ? 21 : 20);
         }
     }
 }
@@ -2579,9 +2826,9 @@ static void run_case(void)
 /* Empty input behind null pointers, which the reference allows. */
 static bool reference_allows_null(void)
 {
-    return reference_read(NULL, 0, NULL, 0).number == 2 &&
-           reference_write(NULL, 0, NULL, 0, NULL, 0).number == 21 &&
-           reference_part_of(NULL, 0, 0).length == 0;
+    return reference_read(ZIELORAD_2025, NULL, 0, NULL, 0).number == 2 &&
+           reference_write(ZIELORAD_2025, NULL, 0, NULL, 0, NULL, 0).number == 21 &&
+           reference_part_of(ZIELORAD_2025, NULL, 0, 0).length == 0;
 }
 
 /* Answers whether each field had each fault that it can have in some version. */
@@ -2612,6 +2859,20 @@ static bool print_ordinals_made(void)
         all_made = all_made && ordinals_made[way] > 0;
     }
     putchar('\n');
+    return all_made;
+}
+
+/* Answers whether formats 12 and 15 were missed with each number that they have. */
+static bool print_misses_made(void)
+{
+    bool all_made = true;
+    printf("how often 8 to 12 were made the number of format 12, and of 15:\n");
+    for (unsigned number = 8; number <= 12; number++) {
+        printf("%10u: %llu %llu\n", number, (unsigned long long)misses_of_12[number],
+               (unsigned long long)misses_of_15[number]);
+        all_made = all_made && (misses_of_12[number] > 0 || number == 9) &&
+                   (misses_of_15[number] > 0 || number > 9);
+    }
     return all_made;
 }
 
@@ -2671,6 +2932,10 @@ int main(int argc, char **argv)
     }
     if (!print_ordinals_made() && cases >= 100000) {
         printf("DIFFERENCE: ordinals were never made false in one of the ways\n");
+        return 1;
+    }
+    if (!print_misses_made() && cases >= 100000) {
+        printf("DIFFERENCE: format 12 or 15 never had a number that it can have\n");
         return 1;
     }
     printf("no difference\n");

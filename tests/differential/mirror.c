@@ -65,6 +65,32 @@
  * SPOILT 61: 22 stands before a false ordinal's 21
  * SPOILT 62: 20 is not answered for a multiple of four
  * SPOILT 63: the reader leaves a table's fifth numbers as they were
+ * SPOILT 64: format 12 is known under 2005
+ * SPOILT 65: format 15 is known under 2005
+ * SPOILT 66: RS is looked for inside the payload of format 15
+ * SPOILT 67: the space in an element of format 12 is not asked for
+ * SPOILT 68: the editions are swapped
+ * SPOILT 69: a GS before the count of format 15 is passed over
+ * SPOILT 70: the year 2024 is taken for 2025
+ * SPOILT 71: the year 2026 is taken for 2005
+ * SPOILT 72: an element of format 12 may end with its space
+ * SPOILT 73: format 14 is known under 2025
+ * SPOILT 74: a year is kept in 16 bits
+ * SPOILT 75: format 12 is unknown under 2025
+ * SPOILT 76: format 15 is unknown under 2025
+ * SPOILT 77: small letters will do in an element of format 12
+ * SPOILT 78: the place of 11 in format 12 is the indicator's
+ * SPOILT 79: a count of 16 digits is taken in format 15
+ * SPOILT 80: a count of 15 digits is refused in format 15
+ * SPOILT 81: a count of zero is refused in format 15
+ * SPOILT 82: a count of format 15 wraps in 32 bits
+ * SPOILT 83: the writer knows formats 12 and 15 under 2005
+ * SPOILT 84: the writer knows the edition of 2005 alone
+ * SPOILT 85: the writer puts a GS before the count of format 15
+ * SPOILT 86: the part of a row is found by the edition of 2005 alone
+ * SPOILT 87: the part of a row is found by the edition of 2025 alone
+ * SPOILT 88: a count of format 15 is written without its leading zeros
+ * SPOILT 89: rows of format 15 have format 9
  */
 #include "zielorad.h"
 
@@ -82,7 +108,7 @@ enum { EOT = 0x04, RS = 0x1E, GS = 0x1D, GUARD = 64 };
 /* Numbers to a row, the last of them its envelope's ordinal, and to a table with
  * room for every label. */
 enum { ROW = 5, ORDINAL = 4, ROW_BYTES = ROW * sizeof(uint32_t) };
-enum { MOST_ROWS = 1024, AMPLE = ROW * MOST_ROWS };
+enum { MOST_ROWS = 1024, MOST_BYTES = 4096, AMPLE = ROW * MOST_ROWS };
 
 static zielorad_reading refusal(uint32_t number, uint32_t place)
 {
@@ -115,7 +141,7 @@ static uint32_t number_of(const char *front, const uint8_t *piece, size_t length
     memcpy(message + at, piece, taken);
     at += taken;
     memcpy(message + at, behind, strlen(behind));
-    return reference_read(message, at + strlen(behind), rows, AMPLE).number;
+    return reference_read(ZIELORAD_2005, message, at + strlen(behind), rows, AMPLE).number;
 }
 
 /* The reference's number for a label of good fields and this one. An omitted
@@ -233,15 +259,28 @@ static zielorad_reading fields_spoilt(const uint8_t *message, zielorad_reading a
     return answer;
 }
 
-/* An element's fault in format 06, altered; other formats' 11 is left. */
+/* No RS stands between an indicator and a faulty element. */
+static size_t indicator_before(const uint8_t *message, size_t element)
+{
+    while (message[element - 1] != RS) {
+        element--;
+    }
+    return element;
+}
+
+static bool is_format(const uint8_t *indicator, const char *digits)
+{
+    return memcmp(indicator, digits, 2) == 0;
+}
+
+/* An element's fault in format 06 or 12, altered; other formats' 11 is left. */
 static zielorad_reading elements_spoilt(const uint8_t *message, zielorad_reading answer)
 {
-    /* No RS stands between an indicator and the faulty element. */
-    size_t indicator = answer.place;
-    while (message[indicator - 1] != RS) {
-        indicator--;
+    size_t indicator = indicator_before(message, answer.place);
+    if (SPOILT == 78 && is_format(message + indicator, "12")) {
+        answer.place = (uint32_t)indicator;
     }
-    if (message[indicator + 1] != '6') {
+    if (!is_format(message + indicator, "06")) {
         return answer;
     }
     if (SPOILT == 36) {
@@ -339,9 +378,9 @@ static void amend_weight(bool is_02, uint8_t *weight, size_t length)
 }
 
 /* The message as the reference has to read it, to answer as the error would. */
-static const uint8_t *amended(const uint8_t *message, size_t length)
+static const uint8_t *with_amended_weight(const uint8_t *message, size_t length)
 {
-    static uint8_t copy[4096];
+    static uint8_t copy[MOST_BYTES];
     size_t weight = length > sizeof copy ? 0 : weight_in(message, length);
     if (weight == 0) {
         return message;
@@ -372,7 +411,7 @@ static uint32_t spoilt_ordinal(const uint32_t *row, bool is_first, uint32_t own)
 
 /* For rows that are refused with 21: what the reference answers if each ordinal
  * that the error overlooks is made the true one of the indicators in front. */
-static reference_written write_overlooking(const uint8_t *data, size_t data_length,
+static reference_written write_overlooking(uint32_t year, const uint8_t *data, size_t data_length,
                                            const uint32_t *rows, size_t rows_length,
                                            uint8_t *output, size_t output_length)
 {
@@ -387,52 +426,227 @@ static reference_written write_overlooking(const uint8_t *data, size_t data_leng
                              (SPOILT != 59 || (own & 0xFFFF) == (rows[i] & 0xFFFF));
         numbers[i] = is_overlooked ? own : rows[i];
     }
-    return reference_write(data, data_length, numbers, rows_length, output, output_length);
+    return reference_write(year, data, data_length, numbers, rows_length, output, output_length);
 }
 
 /* The same, with another refusal where the ordinals alone are false. */
-static reference_written write_refusing(const uint8_t *data, size_t data_length,
+static reference_written write_refusing(uint32_t year, const uint8_t *data, size_t data_length,
                                         const uint32_t *rows, size_t rows_length,
                                         size_t output_length)
 {
-    static uint8_t output[4096];
+    static uint8_t output[MOST_BYTES];
     reference_written written = {21, 0};
-    uint32_t overlooking = write_overlooking(data, data_length, rows, rows_length, output,
+    uint32_t overlooking = write_overlooking(year, data, data_length, rows, rows_length, output,
                                              sizeof output).number;
     if (SPOILT == 60 && overlooking == 0) {
         written.number = 20;
     }
     if (SPOILT == 61 && overlooking == 0 &&
-        write_overlooking(data, data_length, rows, rows_length, output, output_length).number == 22) {
+        write_overlooking(year, data, data_length, rows, rows_length, output,
+                          output_length).number == 22) {
         written.number = 22;
     }
     return written;
 }
 
+/* ---- Editions, and formats 12 and 15 (document 02, No. 3) ---- */
+
+static uint32_t spoilt_year(uint32_t year)
+{
+    switch (SPOILT) {
+    case 68: return year < ZIELORAD_2025 ? ZIELORAD_2025 : ZIELORAD_2005;
+    case 70: return year == 2024 ? ZIELORAD_2025 : year;
+    case 71: return year == 2026 ? ZIELORAD_2005 : year;
+    case 74: return year & 0xFFFF;
+    default: return year;
+    }
+}
+
+static zielorad_reading read_amply(uint32_t year, const uint8_t *message, size_t length,
+                                   uint32_t *rows)
+{
+    reference_reading read = reference_read(year, message, length, rows, AMPLE);
+    zielorad_reading answer = {read.number, read.place, read.envelopes, read.rows};
+    return answer;
+}
+
+/* The reading of the message without the byte at an offset, told in the message's
+ * own offsets. */
+static zielorad_reading read_without(uint32_t year, const uint8_t *message, size_t length,
+                                     size_t at, uint32_t *rows)
+{
+    static uint8_t copy[MOST_BYTES];
+    memcpy(copy, message, at);
+    memcpy(copy + at, message + at + 1, length - at - 1);
+    zielorad_reading answer = read_amply(year, copy, length - 1, rows);
+    for (uint32_t i = 0; i < answer.rows; i++) {
+        rows[ROW * i + 2] += rows[ROW * i + 2] >= at;
+    }
+    answer.place += answer.number != 0 && answer.place >= at;
+    return answer;
+}
+
+/* The same with a byte put in at an offset, in a row that starts before it. */
+static zielorad_reading read_with(uint32_t year, const uint8_t *message, size_t length, size_t at,
+                                  uint32_t *rows)
+{
+    static uint8_t copy[MOST_BYTES + 1];
+    memcpy(copy, message, at);
+    copy[at] = 'X';
+    memcpy(copy + at + 1, message + at, length - at);
+    zielorad_reading answer = read_amply(year, copy, length + 1, rows);
+    for (uint32_t i = 0; i < answer.rows; i++) {
+        uint32_t *row = rows + ROW * i;
+        row[3] -= row[2] < at && at < row[2] + row[3];
+        row[2] -= row[2] > at;
+    }
+    answer.place -= answer.number != 0 && answer.place > at;
+    return answer;
+}
+
+static size_t digits_at(const uint8_t *message, size_t length, size_t at)
+{
+    size_t end = at;
+    while (end < length && message[end] >= '0' && message[end] <= '9') {
+        end++;
+    }
+    return end - at;
+}
+
+/* A header of format 15 that is refused with 8, as an error takes it. */
+static zielorad_reading header_15_spoilt(uint32_t year, const uint8_t *message, size_t length,
+                                         zielorad_reading answer, uint32_t *rows)
+{
+    uint32_t count = answer.place + 2;
+    if (SPOILT == 69 && count < length && message[count] == GS) {
+        return read_without(year, message, length, count, rows);
+    }
+    if (SPOILT == 79 && digits_at(message, length, count) == 16 && message[count] == '0') {
+        answer = read_without(year, message, length, count, rows);
+        for (uint32_t i = 0; i < answer.rows; i++) {
+            uint32_t *row = rows + ROW * i;
+            if (row[0] == 2 && row[2] == count + 1) {
+                row[2]--;
+                row[3]++;
+            }
+        }
+    }
+    return answer;
+}
+
+/* An element of format 12 that is refused with 11, as an error takes it. */
+static zielorad_reading element_12_spoilt(uint32_t year, const uint8_t *message, size_t length,
+                                          zielorad_reading answer, uint32_t *rows)
+{
+    static uint8_t copy[MOST_BYTES];
+    size_t at = answer.place, end = end_of_piece(message, at);
+    if (SPOILT == 72 && end - at == 4 && length < MOST_BYTES) {
+        zielorad_reading taken = read_with(year, message, length, end, rows);
+        return taken.number == 11 && taken.place == at ? answer : taken;
+    }
+    if ((SPOILT != 67 && SPOILT != 77) || end - at < 5) {
+        return answer;
+    }
+    memcpy(copy, message, length);
+    if (SPOILT == 67) {
+        copy[at + 3] = ' ';
+    } else {
+        make_capitals(copy + at, 3);
+    }
+    return read_amply(year, copy, length, rows);
+}
+
+/* Format 14 under 2025, as format 07 is. */
+static zielorad_reading format_14_spoilt(uint32_t year, const uint8_t *message, size_t length,
+                                         size_t indicator, uint32_t *rows)
+{
+    static uint8_t copy[MOST_BYTES];
+    memcpy(copy, message, length);
+    memcpy(copy + indicator, "07", 2);
+    zielorad_reading answer = read_amply(year, copy, length, rows);
+    for (uint32_t i = 0; i + 1 < answer.rows; i++) {
+        if (rows[ROW * i + 2] == indicator) {
+            rows[ROW * i + 1] = rows[ROW * (i + 1) + 1] = 14;
+        }
+    }
+    return answer;
+}
+
+/* A refusal by what an edition knows and what formats 12 and 15 are, altered. What
+ * stands behind an envelope that the error takes is read as it is, but for such
+ * an error of its own. */
+static zielorad_reading edition_spoilt(uint32_t year, const uint8_t *message, size_t length,
+                                       zielorad_reading answer, uint32_t *rows)
+{
+    const uint8_t *indicator = message + answer.place;
+    if (answer.number == 6 &&
+        ((SPOILT == 64 && is_format(indicator, "12")) || (SPOILT == 65 && is_format(indicator, "15")))) {
+        return read_amply(ZIELORAD_2025, message, length, rows);
+    }
+    if (SPOILT == 73 && answer.number == 6 && year >= ZIELORAD_2025 && is_format(indicator, "14")) {
+        return format_14_spoilt(year, message, length, answer.place, rows);
+    }
+    if (answer.number == 8 && is_format(indicator, "15")) {
+        return header_15_spoilt(year, message, length, answer, rows);
+    }
+    if (answer.number == 11 && is_format(message + indicator_before(message, answer.place), "12")) {
+        return element_12_spoilt(year, message, length, answer, rows);
+    }
+    return answer;
+}
+
+/* What the error refuses of a row of format 12 or 15: the number, or 0. */
+static uint32_t refused_row(const uint8_t *message, const uint32_t *row)
+{
+    bool is_15 = row[1] == 15;
+    if ((SPOILT == 75 && row[1] == 12) || (SPOILT == 76 && is_15)) {
+        return 6;
+    }
+    if (SPOILT == 80 && is_15 && row[0] == 2 && row[3] == 15) {
+        return 8;
+    }
+    if (SPOILT == 81 && is_15 && row[0] == 7 && row[3] == 0) {
+        return 9;
+    }
+    if (SPOILT == 66 && is_15 && row[0] == 7 && memchr(message + row[2], RS, row[3]) != NULL) {
+        return 9;
+    }
+    return 0;
+}
+
 /* ---- The reader ---- */
 
+/* Where the count of an envelope of format 09 or 15 starts whose header stands. */
+static size_t count_of(const uint8_t *message, size_t indicator)
+{
+    size_t at = indicator + 2, separators = is_format(message + indicator, "15") ? 3 : 0;
+    while (separators < 3) {
+        separators += message[at++] == GS;
+    }
+    return at;
+}
+
 /* A reading with ample room, altered as an error of the reader would. */
-static zielorad_reading read_spoilt(const uint8_t *message, size_t length, uint32_t *rows)
+static zielorad_reading read_spoilt(uint32_t year, const uint8_t *message, size_t length,
+                                    uint32_t *rows)
 {
     if (SPOILT >= 41) {
-        message = amended(message, length);
+        message = with_amended_weight(message, length);
     }
-    reference_reading read = reference_read(message, length, rows, AMPLE);
-    zielorad_reading answer = {read.number, read.place, read.envelopes, read.rows};
+    zielorad_reading read = read_amply(year, message, length, rows), answer = read;
     uint32_t indicator = 0, kept = 0;
 
-    if (SPOILT == 3 && read.number == 10 && length > 6 && message[5] == '2') {
+    if (SPOILT >= 64 && answer.number >= 3) {
+        read = answer = edition_spoilt(year, message, length, answer, rows);
+    }
+    if (SPOILT == 3 && read.number == 10 && length > 6 && is_format(message + 4, "02")) {
         const uint8_t *end = memchr(message + 4, EOT, length - 4);
         if (end != NULL) {
-            reference_reading cut = reference_read(message, (size_t)(end - message), rows, AMPLE);
-            zielorad_reading cut_answer = {cut.number, cut.place, cut.envelopes, cut.rows};
-            return cut_answer;
+            return read_amply(year, message, (size_t)(end - message), rows);
         }
     }
     if (SPOILT == 28 && read.number == 4 && message[length] == EOT) {
-        read = reference_read(message, length + 1, rows, AMPLE);
-        zielorad_reading overrun = {read.number, read.place, read.envelopes, read.rows};
-        return overrun;
+        return read_amply(year, message, length + 1, rows);
     }
     if (SPOILT == 6 && read.number == 5) {
         answer.place -= 1;
@@ -444,15 +658,12 @@ static zielorad_reading read_spoilt(const uint8_t *message, size_t length, uint3
         message[read.place] >= '0' && message[read.place] <= '9') {
         return refusal(4, (uint32_t)length);
     }
-    if (SPOILT == 23 && read.number == 9) {
+    if (read.number == 9 &&
+        SPOILT == (is_format(message + read.place, "15") ? 82 : 23)) {
         /* The same message with the count's lower 32 bits, as wide as before. */
-        static uint8_t copy[4096];
+        static uint8_t copy[MOST_BYTES];
         memcpy(copy, message, length);
-        size_t at = read.place, separators = 0;
-        while (separators < 3) {
-            separators += copy[at++] == GS;
-        }
-        size_t end = at;
+        size_t at = count_of(message, read.place), end = at;
         uint32_t count = 0;
         while (copy[end] != GS) {
             count = count * 10 + (uint32_t)(copy[end++] - '0');
@@ -461,11 +672,9 @@ static zielorad_reading read_spoilt(const uint8_t *message, size_t length, uint3
             copy[--end] = (uint8_t)('0' + count % 10);
             count /= 10;
         }
-        read = reference_read(copy, length, rows, AMPLE);
-        zielorad_reading wrapped = {read.number, read.place, read.envelopes, read.rows};
-        return wrapped;
+        return read_amply(year, copy, length, rows);
     }
-    if (SPOILT == 38 && read.number == 10 && read.place == INDICATOR_01 && message[5] == '1') {
+    if (SPOILT == 38 && read.number == 10 && is_format(message + read.place, "01")) {
         return faulty_field(message, false, answer);
     }
     if (read.number >= 30) {
@@ -486,6 +695,12 @@ static zielorad_reading read_spoilt(const uint8_t *message, size_t length, uint3
         if (SPOILT == 1 && row[0] == 7 && row[1] == 9 &&
             memchr(message + row[2], RS, row[3]) != NULL) {
             return refusal(9, indicator);
+        }
+        if (refused_row(message, row) != 0) {
+            return refusal(refused_row(message, row), indicator);
+        }
+        if (SPOILT == 89 && row[1] == 15) {
+            row[1] = 9;
         }
         if (SPOILT == 19 && row[0] == 4 && row[1] == 4 && row[3] == 3 &&
             memcmp(message + row[2], "BIN", 3) == 0) {
@@ -508,11 +723,11 @@ static zielorad_reading read_spoilt(const uint8_t *message, size_t length, uint3
     return answer;
 }
 
-zielorad_reading zielorad_read(const uint8_t *message, size_t message_length,
+zielorad_reading zielorad_read(uint32_t edition, const uint8_t *message, size_t message_length,
                                uint32_t *table, size_t table_length)
 {
     static uint32_t rows[AMPLE];
-    zielorad_reading answer = read_spoilt(message, message_length, rows);
+    zielorad_reading answer = read_spoilt(spoilt_year(edition), message, message_length, rows);
     size_t room = table_length / (SPOILT == 53 ? 4 : ROW);
 
     if (SPOILT == 13 && answer.number == 13 && room < MOST_ROWS) {
@@ -522,7 +737,8 @@ zielorad_reading zielorad_read(const uint8_t *message, size_t message_length,
         ((uint8_t *)message)[answer.place] = '0' + 1;
     }
     if (SPOILT == 4 && answer.number >= 3 && answer.number <= 12 && answer.place > 4 && room > 0) {
-        uint32_t first[ROW] = {1, (uint32_t)(message[5] - '0'), 4, 2, 0};
+        uint32_t first[ROW] = {1, (uint32_t)(message[4] - '0') * 10 + (uint32_t)(message[5] - '0'),
+                               4, 2, 0};
         memcpy(table, first, sizeof first);
     }
     if (SPOILT == 24 && answer.number == 0 && answer.rows == room) {
@@ -550,14 +766,14 @@ zielorad_reading zielorad_read(const uint8_t *message, size_t message_length,
     return answer;
 }
 
-/* Removes the leading zeros of every count of a written message. */
-static uint32_t without_zeros(uint8_t *output, uint32_t count)
+/* Removes the leading zeros of every count of a written message, in one format. */
+static uint32_t without_zeros(uint8_t *output, uint32_t count, uint32_t format)
 {
     static uint32_t rows[AMPLE];
-    reference_reading read = reference_read(output, count, rows, AMPLE);
-    for (uint32_t i = read.rows; i-- > 3;) {
+    zielorad_reading read = read_amply(ZIELORAD_2025, output, count, rows);
+    for (uint32_t i = read.rows; i-- > 2;) {
         const uint32_t *row = rows + ROW * i;
-        if (row[1] == 9 && row[0] == 7) {
+        if (row[1] == format && row[0] == 7) {
             uint32_t start = row[-ROW + 2], length = row[-ROW + 3];
             while (length > 1 && output[start] == '0') {
                 memmove(output + start, output + start + 1, count - start - 1);
@@ -569,9 +785,26 @@ static uint32_t without_zeros(uint8_t *output, uint32_t count)
     return count;
 }
 
+/* Puts a GS before the count of each format 15 in a written message, if there is
+ * room for it. */
+static uint32_t with_marks_before_counts(uint8_t *output, uint32_t count, size_t output_length)
+{
+    static uint32_t rows[AMPLE];
+    zielorad_reading read = read_amply(ZIELORAD_2025, output, count, rows);
+    for (uint32_t i = read.rows; i-- > 0 && count < output_length;) {
+        uint32_t start = rows[ROW * i + 2];
+        if (rows[ROW * i] == 2 && rows[ROW * i + 1] == 15) {
+            memmove(output + start + 1, output + start, count - start);
+            output[start] = GS;
+            count++;
+        }
+    }
+    return count;
+}
+
 /* For rows that are refused: the answer if a weight of version 02 needs no unit.
  * A good weight is written in its place, and then its own bytes over that. */
-static reference_written write_without_unit(const uint8_t *data, size_t data_length,
+static reference_written write_without_unit(uint32_t year, const uint8_t *data, size_t data_length,
                                             const uint32_t *rows, size_t rows_length,
                                             uint8_t *output, size_t output_length)
 {
@@ -589,37 +822,45 @@ static reference_written write_without_unit(const uint8_t *data, size_t data_len
     change_version(true, longer_data + data_length, length);
     memcpy(numbers, rows, rows_length * sizeof(uint32_t));
     numbers[WEIGHT + 2] = (uint32_t)data_length;
-    written = reference_write(longer_data, data_length + length, numbers, rows_length,
+    written = reference_write(year, longer_data, data_length + length, numbers, rows_length,
                               output, output_length);
     if (written.number == 0) {
-        reference_read(output, written.count, numbers, AMPLE);
+        reference_read(year, output, written.count, numbers, AMPLE);
         memcpy(output + numbers[WEIGHT + 2], weight, length);
     }
     return written;
 }
 
-zielorad_written zielorad_write(const uint8_t *data, size_t data_length,
+zielorad_written zielorad_write(uint32_t edition, const uint8_t *data, size_t data_length,
                                 const uint32_t *rows, size_t rows_length,
                                 uint8_t *output, size_t output_length)
 {
-    reference_written written = reference_write(data, data_length, rows, rows_length,
+    uint32_t year = SPOILT == 83   ? ZIELORAD_2025
+                    : SPOILT == 84 ? ZIELORAD_2005
+                                   : spoilt_year(edition);
+    reference_written written = reference_write(year, data, data_length, rows, rows_length,
                                                 output, output_length);
     if (SPOILT == 50 && written.number == 21) {
-        written = write_without_unit(data, data_length, rows, rows_length, output, output_length);
+        written = write_without_unit(year, data, data_length, rows, rows_length, output,
+                                     output_length);
     }
     if ((SPOILT == 54 || SPOILT == 58 || SPOILT == 59) && written.number == 21) {
-        written = write_overlooking(data, data_length, rows, rows_length, output, output_length);
+        written = write_overlooking(year, data, data_length, rows, rows_length, output,
+                                    output_length);
     }
     if ((SPOILT == 60 || SPOILT == 61) && written.number == 21) {
-        written = write_refusing(data, data_length, rows, rows_length, output_length);
+        written = write_refusing(year, data, data_length, rows, rows_length, output_length);
     }
     zielorad_written answer = {written.number, written.count};
 
     if (SPOILT == 62 && answer.number == 20 && rows_length % 4 == 0 && rows_length % ROW != 0) {
         answer.number = 21;
     }
-    if (SPOILT == 5 && answer.number == 0) {
-        answer.count = without_zeros(output, answer.count);
+    if ((SPOILT == 5 || SPOILT == 88) && answer.number == 0) {
+        answer.count = without_zeros(output, answer.count, SPOILT == 5 ? 9 : 15);
+    }
+    if (SPOILT == 85 && answer.number == 0) {
+        answer.count = with_marks_before_counts(output, answer.count, output_length);
     }
     if (SPOILT == 7 && answer.number == 21) {
         size_t needed = 4;
@@ -664,11 +905,16 @@ zielorad_written zielorad_write(const uint8_t *data, size_t data_length,
     return answer;
 }
 
-zielorad_part zielorad_part_of(const uint8_t *message, size_t message_length, size_t row)
+zielorad_part zielorad_part_of(uint32_t edition, const uint8_t *message, size_t message_length,
+                               size_t row)
 {
-    reference_part found = reference_part_of(message, message_length, SPOILT == 11 ? row - 1 : row);
+    uint32_t year = SPOILT == 86   ? ZIELORAD_2005
+                    : SPOILT == 87 ? ZIELORAD_2025
+                                   : spoilt_year(edition);
+    reference_part found = reference_part_of(year, message, message_length,
+                                             SPOILT == 11 ? row - 1 : row);
     zielorad_part answer = {found.start, found.length};
-    if (SPOILT == 20 && reference_read(message, message_length, NULL, 0).number != 14) {
+    if (SPOILT == 20 && reference_read(year, message, message_length, NULL, 0).number != 14) {
         answer.length = message_length;
     }
     return answer;
