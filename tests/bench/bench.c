@@ -26,6 +26,7 @@ typedef enum { READ, WRITE, PART } operation;
 typedef struct {
     const char *name, *group, *title;
     operation asked;
+    uint32_t edition;
     uint32_t number; /* the answer expected: 0, or a refusal */
     uint8_t message[LONGEST];
     size_t length;
@@ -69,6 +70,15 @@ static bench_case *new_case(const char *name, const char *group, const char *tit
     c->group = group;
     c->title = title;
     c->asked = asked;
+    c->edition = ZIELORAD_2005;
+    return c;
+}
+
+/* A case by the edition of 2025, which has the formats that it is in. */
+static bench_case *new_case_of_2025(const char *name, const char *group, const char *title, operation asked)
+{
+    bench_case *c = new_case(name, group, title, asked);
+    c->edition = ZIELORAD_2025;
     return c;
 }
 
@@ -78,27 +88,48 @@ static void open_label(bench_case *c)
 }
 
 /* '|' stands for GS. */
-static void add_06(bench_case *c, const char *elements)
+static void add_elements(bench_case *c, const char *format, const char *elements)
 {
-    add_text(c, "06\x1D");
+    add_text(c, format);
+    add(c, GS);
     for (; *elements != 0; elements++) {
         add(c, *elements == '|' ? GS : (uint8_t)*elements);
     }
     add(c, RS);
 }
 
-/* Elements of three bytes up to a size: size - 8 must be a multiple of 4. */
-static void make_many(bench_case *c, size_t size)
+static void add_06(bench_case *c, const char *elements)
 {
-    static const char *const elements[] = {"1P7", "Q12", "S42", "9KB", "V01"};
+    add_elements(c, "06", elements);
+}
+
+/* Five elements by turns, each with a GS before it, as long as there is room up to a size. */
+static void make_elements(bench_case *c, const char *format, const char *const elements[5], size_t size)
+{
     open_label(c);
-    add_text(c, "06");
-    for (size_t i = 0; c->length + 2 < size; i++) {
+    add_text(c, format);
+    for (size_t i = 0; c->length + 1 + strlen(elements[i % 5]) + 2 <= size; i++) {
         add(c, GS);
         add_text(c, elements[i % 5]);
     }
     add(c, RS);
     add(c, EOT);
+}
+
+/* Elements of three bytes: size - 8 must be a multiple of 4. */
+static void make_many(bench_case *c, size_t size)
+{
+    static const char *const elements[] = {"1P7", "Q12", "S42", "9KB", "V01"};
+    make_elements(c, "06", elements, size);
+}
+
+/* Elements of seven bytes, which formats 06 and 12 both can have: size - 8 must be a multiple of 8. */
+static void make_many_of_seven(bench_case *c, size_t size)
+{
+    static const char *const of_06[] = {"1P74711", "Q120000", "S420815", "9KB-100", "V010203"};
+    static const char *const of_12[] = {"PNR 471", "QTY 120", "SER 420", "ORD B-1", "SPL 010"};
+    bool is_12 = c->edition == ZIELORAD_2025;
+    make_elements(c, is_12 ? "12" : "06", is_12 ? of_12 : of_06, size);
 }
 
 static void make_text(bench_case *c, size_t size)
@@ -113,14 +144,14 @@ static void make_text(bench_case *c, size_t size)
     add(c, EOT);
 }
 
-/* A payload of all byte values, control bytes too; its count has four digits. */
-static void make_payload(bench_case *c, size_t size)
+/* A payload of all byte values, control bytes too; its count has four digits. What stands before the count is the format's. */
+static void make_counted(bench_case *c, const char *front, size_t size)
 {
     char count[8];
-    size_t payload = size - 17;
-    snprintf(count, sizeof count, "%04zu", payload);
     open_label(c);
-    add_text(c, "09\x1D" "A\x1D\x1D");
+    add_text(c, front);
+    size_t payload = size - c->length - 4 - 1 - 2;
+    snprintf(count, sizeof count, "%04zu", payload);
     add_text(c, count);
     add(c, GS);
     for (size_t i = 0; i < payload; i++) {
@@ -130,12 +161,20 @@ static void make_payload(bench_case *c, size_t size)
     add(c, EOT);
 }
 
+static void make_payload(bench_case *c, size_t size)
+{
+    make_counted(c, "09\x1D" "A\x1D\x1D", size);
+}
+
+/* Elements of the same lengths in both formats. */
 #define SHORT_ELEMENTS "1PAB-471100-RED|Q1200|S000421|4L0001|9KORDER77|10D2631|VDOCK-NORTH|3S98765432|2QKGM12.5|1TLOT-B8812|18VUN047113"
+#define SHORT_OF_12 "PNR AB-471100-R|QTY 9|SER 421|LOC 01|ORD O-R77|EXP 263|DCK NORTH-1|SEQ 987654|WGT 12.50|LOT B-88120|UNN 047113X"
 
 static void make_short(bench_case *c)
 {
+    bool is_12 = c->edition == ZIELORAD_2025;
     open_label(c);
-    add_06(c, SHORT_ELEMENTS);
+    add_elements(c, is_12 ? "12" : "06", is_12 ? SHORT_OF_12 : SHORT_ELEMENTS);
     add(c, EOT);
 }
 
@@ -185,6 +224,12 @@ static void make_cases(const char *examples)
     make_file(new_case("f-j", "stack", "write (j)", WRITE), examples, "B.2.label");
     make_file(new_case("g-j", "stack", "part of the last row of (j)", PART), examples, "B.2.label");
 
+    /* formats of the edition of 2025, each to be held against one of 2005 of the same size: (l) and (a), (n) and (m), (o) and (d) */
+    make_short(new_case_of_2025("l", "2025", "read format 12, bytes and rows as (a)", READ));
+    make_many_of_seven(new_case("m", "2025", "read format 06, 512 rows", READ), LONGEST);
+    make_many_of_seven(new_case_of_2025("n", "2025", "read format 12, bytes and rows as (m)", READ), LONGEST);
+    make_counted(new_case_of_2025("o", "2025", "read format 15, bytes as (d), payload of 4,083", READ), "15", LONGEST);
+
     static const size_t sizes[] = {512, 1024, 2048, 4096};
     static const char *const names[][4] = {{"06-512", "06-1024", "06-2048", "06-4096"},
                                            {"07-512", "07-1024", "07-2048", "07-4096"},
@@ -206,9 +251,12 @@ static void make_cases(const char *examples)
 
 /* ---- The calls ---- */
 
-/* All three functions take whole numbers in registers, at most six, and answer at most two: so one shape of call serves for all of them. */
+/* All three functions take whole numbers, at most six in registers and a seventh on the stack, and answer at most two: so one shape of
+ * call serves for all of them. */
+enum { MOST_ARGUMENTS = 7 };
+
 typedef struct {
-    uint64_t argument[6];
+    uint64_t argument[MOST_ARGUMENTS];
     void (*function)(void);
 } call;
 
@@ -226,22 +274,22 @@ static call call_of(const bench_case *c, const char *side)
     if (!ours && !reference && strcmp(side, "nothing") != 0) {
         fail("there is no such side", side);
     }
-    call k = {{(uint64_t)(uintptr_t)c->message, c->length, 0, 0, 0, 0}, nothing};
+    call k = {{c->edition, (uint64_t)(uintptr_t)c->message, c->length, 0, 0, 0, 0}, nothing};
     switch (c->asked) {
     case READ:
-        k.argument[2] = (uint64_t)(uintptr_t)table;
-        k.argument[3] = ZIELORAD_TABLE;
+        k.argument[3] = (uint64_t)(uintptr_t)table;
+        k.argument[4] = ZIELORAD_TABLE;
         k.function = ours ? (void (*)(void))zielorad_read : (void (*)(void))reference_read;
         break;
     case WRITE:
-        k.argument[2] = (uint64_t)(uintptr_t)c->rows;
-        k.argument[3] = ZIELORAD_ROW * c->row_count;
-        k.argument[4] = (uint64_t)(uintptr_t)output;
-        k.argument[5] = LONGEST;
+        k.argument[3] = (uint64_t)(uintptr_t)c->rows;
+        k.argument[4] = ZIELORAD_ROW * c->row_count;
+        k.argument[5] = (uint64_t)(uintptr_t)output;
+        k.argument[6] = LONGEST;
         k.function = ours ? (void (*)(void))zielorad_write : (void (*)(void))reference_write;
         break;
     case PART:
-        k.argument[2] = c->row_count - 1;
+        k.argument[3] = c->row_count - 1;
         k.function = ours ? (void (*)(void))zielorad_part_of : (void (*)(void))reference_part_of;
         break;
     }
@@ -260,9 +308,10 @@ static volatile uint64_t sink;
 
 static inline void make_call(const call *k)
 {
-    two_words (*function)(uint64_t, uint64_t, uint64_t, uint64_t, uint64_t, uint64_t) =
-        (two_words(*)(uint64_t, uint64_t, uint64_t, uint64_t, uint64_t, uint64_t))k->function;
-    two_words answer = function(k->argument[0], k->argument[1], k->argument[2], k->argument[3], k->argument[4], k->argument[5]);
+    two_words (*function)(uint64_t, uint64_t, uint64_t, uint64_t, uint64_t, uint64_t, uint64_t) =
+        (two_words(*)(uint64_t, uint64_t, uint64_t, uint64_t, uint64_t, uint64_t, uint64_t))k->function;
+    two_words answer =
+        function(k->argument[0], k->argument[1], k->argument[2], k->argument[3], k->argument[4], k->argument[5], k->argument[6]);
     sink = answer.first;
 }
 
@@ -273,7 +322,7 @@ static uint8_t first_output[LONGEST];
 
 static void check(bench_case *c)
 {
-    c->row_count = reference_read(c->message, c->length, c->rows, ZIELORAD_TABLE).rows;
+    c->row_count = reference_read(c->edition, c->message, c->length, c->rows, ZIELORAD_TABLE).rows;
     memset(table, 0xA5, sizeof table);
     memset(output, 0xA5, sizeof output);
     memcpy(first_table, table, sizeof table);
@@ -281,24 +330,24 @@ static void check(bench_case *c)
     bool same = false;
     switch (c->asked) {
     case READ: {
-        reference_reading theirs = reference_read(c->message, c->length, first_table, ZIELORAD_TABLE);
-        zielorad_reading ours = zielorad_read(c->message, c->length, table, ZIELORAD_TABLE);
+        reference_reading theirs = reference_read(c->edition, c->message, c->length, first_table, ZIELORAD_TABLE);
+        zielorad_reading ours = zielorad_read(c->edition, c->message, c->length, table, ZIELORAD_TABLE);
         same = ours.number == c->number && ours.number == theirs.number && ours.place == theirs.place &&
                ours.envelopes == theirs.envelopes && ours.rows == theirs.rows && (c->number != 0 || ours.rows == c->row_count);
         break;
     }
     case WRITE: {
         size_t numbers = ZIELORAD_ROW * c->row_count;
-        reference_written theirs = reference_write(c->message, c->length, c->rows, numbers, first_output, LONGEST);
-        zielorad_written ours = zielorad_write(c->message, c->length, c->rows, numbers, output, LONGEST);
+        reference_written theirs = reference_write(c->edition, c->message, c->length, c->rows, numbers, first_output, LONGEST);
+        zielorad_written ours = zielorad_write(c->edition, c->message, c->length, c->rows, numbers, output, LONGEST);
         same = ours.number == c->number && ours.number == theirs.number && ours.count == theirs.count && ours.count == c->length &&
                memcmp(output, c->message, c->length) == 0;
         break;
     }
     case PART: {
         size_t row = c->row_count - 1;
-        reference_part theirs = reference_part_of(c->message, c->length, row);
-        zielorad_part ours = zielorad_part_of(c->message, c->length, row);
+        reference_part theirs = reference_part_of(c->edition, c->message, c->length, row);
+        zielorad_part ours = zielorad_part_of(c->edition, c->message, c->length, row);
         same = ours.start == theirs.start && ours.length == theirs.length && ours.start == c->rows[ZIELORAD_ROW * row + 2] &&
                ours.length == c->rows[ZIELORAD_ROW * row + 3] && ours.length != 0;
         break;
@@ -357,8 +406,8 @@ static void print_times(const call *ours, const call *reference)
  * - reserved: the least value of the stack pointer, seen by a single step after each instruction (the signal handler has another stack). It
  *   also counts memory that is set aside and never written, but not the 128 bytes below the stack pointer that a function may use as they
  *   are; so the stack to provide is the greater of the two.
- * Both count the eight bytes of the return address. */
-enum { ROOM = 1 << 18 };
+ * Both count the eight bytes of the return address, and not the seventh argument, which stands above it. */
+enum { ROOM = 1 << 18, TOP = ROOM - 16 };
 static uint8_t own_stack[ROOM] __attribute__((aligned(64)));
 static uint8_t handler_stack[1 << 16] __attribute__((aligned(64)));
 static volatile uint64_t least_pointer;
@@ -384,10 +433,11 @@ static void call_on_own_stack(const call *k, uint64_t flag)
 {
     register uint64_t fourth __asm__("r8") = k->argument[4];
     register uint64_t fifth __asm__("r9") = k->argument[5];
-    register uint8_t *top __asm__("r12") = own_stack + ROOM;
+    register uint8_t *top __asm__("r12") = own_stack + TOP;
     register uint64_t step_flag __asm__("r13") = flag;
     register void (*function)(void) __asm__("r14") = k->function;
     uint64_t zeroth = k->argument[0], first = k->argument[1], second = k->argument[2], third = k->argument[3];
+    memcpy(own_stack + TOP, &k->argument[6], sizeof k->argument[6]);
     __asm__ volatile("mov %%rsp, %%rbx\n\t"
                      "lea -128(%%rsp), %%rsp\n\t"
                      "pushfq\n\t"
@@ -413,10 +463,10 @@ static size_t touched_of(const call *k)
         memset(own_stack, paint, ROOM);
         call_on_own_stack(k, 0);
         size_t lowest = 0;
-        while (lowest < ROOM && own_stack[lowest] == paint) {
+        while (lowest < TOP && own_stack[lowest] == paint) {
             lowest++;
         }
-        most = ROOM - lowest > most ? ROOM - lowest : most;
+        most = TOP - lowest > most ? TOP - lowest : most;
     }
     return most;
 }
@@ -426,7 +476,7 @@ static size_t reserved_of(const call *k)
 {
     stack_t other = {.ss_sp = handler_stack, .ss_size = sizeof handler_stack};
     struct sigaction action = {.sa_sigaction = stepped, .sa_flags = SA_SIGINFO | SA_ONSTACK};
-    uint64_t top = (uint64_t)(uintptr_t)(own_stack + ROOM);
+    uint64_t top = (uint64_t)(uintptr_t)(own_stack + TOP);
     if (sigaltstack(&other, NULL) != 0 || sigaction(SIGTRAP, &action, NULL) != 0) {
         return 0;
     }

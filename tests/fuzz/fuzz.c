@@ -1,7 +1,7 @@
-/* The fuzz harness: each input is a call of every exported function, beside the reference. tests/fuzz/run builds and runs it,
- * docs/FUZZING.md says what came of it.
+/* The fuzz harness: each input is a call of every exported function by both editions, beside the reference. tests/fuzz/run builds and runs
+ * it, docs/FUZZING.md says what came of it.
  *
- * An input is a head of twelve bytes, which chooses sizes and changes, and behind it either a label or rows and their data. Whatever a
+ * An input is a head of twelve bytes, which chooses sizes, changes and years, and behind it either a label or rows and their data. What a
  * call is lent stands against a page that can't be touched, in front of it or behind it, so that a byte read or written outside ends the
  * run. The reference is lent memory that looks the same; after each call all of it is compared, what was lent and what lies around. */
 #define _GNU_SOURCE
@@ -92,6 +92,8 @@ static void compare_memory(const lent *l, const char *text)
 
 /* ---- The calls, each beside the reference ---- */
 
+static uint32_t year; /* by which all calls are made, until the other edition's turn comes */
+
 /* What the message holds, kept apart: a call must not change it. */
 static const uint8_t *message_given;
 
@@ -106,8 +108,8 @@ static void message_is_unchanged(void)
 static zielorad_reading try_read(size_t table_length)
 {
     lend(&table_lent, table_length * sizeof(uint32_t), NULL);
-    zielorad_reading ours = zielorad_read(our(&message_lent), message_lent.bytes, our(&table_lent), table_length);
-    reference_reading theirs = reference_read(their(&message_lent), message_lent.bytes, their(&table_lent), table_length);
+    zielorad_reading ours = zielorad_read(year, our(&message_lent), message_lent.bytes, our(&table_lent), table_length);
+    reference_reading theirs = reference_read(year, their(&message_lent), message_lent.bytes, their(&table_lent), table_length);
     check(ours.number == theirs.number, "read: the number differs");
     check(ours.place == theirs.place, "read: the place differs");
     check(ours.envelopes == theirs.envelopes, "read: the envelopes differ");
@@ -124,9 +126,9 @@ static zielorad_written try_write(const uint32_t *rows, size_t rows_length, size
     lend(&rows_lent, rows_bytes, rows);
     lend(&output_lent, output_length, NULL);
     zielorad_written ours =
-        zielorad_write(our(&message_lent), message_lent.bytes, our(&rows_lent), rows_length, our(&output_lent), output_length);
-    reference_written theirs =
-        reference_write(their(&message_lent), message_lent.bytes, their(&rows_lent), rows_length, their(&output_lent), output_length);
+        zielorad_write(year, our(&message_lent), message_lent.bytes, our(&rows_lent), rows_length, our(&output_lent), output_length);
+    reference_written theirs = reference_write(year, their(&message_lent), message_lent.bytes, their(&rows_lent), rows_length,
+                                               their(&output_lent), output_length);
     check(ours.number == theirs.number, "write: the number differs");
     check(ours.count == theirs.count, "write: the count differs");
     compare_memory(&output_lent, "write: the output or the memory around it differs");
@@ -138,8 +140,8 @@ static zielorad_written try_write(const uint32_t *rows, size_t rows_length, size
 
 static void try_part(size_t row)
 {
-    zielorad_part ours = zielorad_part_of(our(&message_lent), message_lent.bytes, row);
-    reference_part theirs = reference_part_of(their(&message_lent), message_lent.bytes, row);
+    zielorad_part ours = zielorad_part_of(year, our(&message_lent), message_lent.bytes, row);
+    reference_part theirs = reference_part_of(year, their(&message_lent), message_lent.bytes, row);
     check(ours.start == theirs.start, "part: the start differs");
     check(ours.length == theirs.length, "part: the length differs");
     message_is_unchanged();
@@ -193,8 +195,9 @@ static size_t change_rows(const head *h, size_t count)
     }
 }
 
-/* A label: read with the table chosen and with ample room; if it is good, written back, as it is and with a change; parts of it. */
-static void try_label(const head *h, const uint8_t *label, size_t length)
+/* A label: read with the table chosen and with ample room; if it is good, written back, as it is and with a change; parts of it. The
+ * answer is the reading with ample room. */
+static zielorad_reading try_label(const head *h, const uint8_t *label, size_t length)
 {
     message_given = label;
     lend(&message_lent, length, label);
@@ -204,7 +207,7 @@ static void try_label(const head *h, const uint8_t *label, size_t length)
     try_part(h->row);
     try_part((size_t)0 - 1);
     if (reading.number != 0) {
-        return;
+        return reading;
     }
     try_part(reading.rows - 1);
     try_part(reading.rows);
@@ -216,6 +219,7 @@ static void try_label(const head *h, const uint8_t *label, size_t length)
     check(memcmp(output_lent.ours + output_lent.offset, label, length) == 0, "write: another message is written back");
     try_write(rows, numbers, h->output_length);
     try_write(rows, change_rows(h, reading.rows), h->output_length);
+    return reading;
 }
 
 /* Rows of seven bytes (kind, format, start, length, envelope; two each for start and length), the last of them as often as the head's value
@@ -261,6 +265,26 @@ static void try_rows(const head *h, const uint8_t *bytes, size_t length)
     }
 }
 
+/* The year for an edition: its own, or if the head says so another for which it counts (02, No. 3). */
+static uint32_t chosen_year(const head *h, bool is_2025)
+{
+    static const uint32_t before[4] = {0, 2004, 2006, 2024}, from[4] = {2026, 65536 + 2005, 0x80000000, 0xFFFFFFFF};
+    if ((h->flags & 16) == 0) {
+        return is_2025 ? ZIELORAD_2025 : ZIELORAD_2005;
+    }
+    return is_2025 ? from[h->flags >> 5 & 3] : before[h->flags >> 5 & 3];
+}
+
+/* The editions answer alike, unless that of 2005 refuses format 12 or 15. */
+static void compare_editions(const uint8_t *label, zielorad_reading by_2005, zielorad_reading by_2025)
+{
+    bool same = by_2005.number == by_2025.number && by_2005.place == by_2025.place && by_2005.envelopes == by_2025.envelopes &&
+                by_2005.rows == by_2025.rows;
+    const uint8_t *indicator = label + by_2005.place;
+    check(same || (by_2005.number == 6 && indicator[0] == '1' && (indicator[1] == '2' || indicator[1] == '5')),
+          "read: the editions differ where they are the same");
+}
+
 int LLVMFuzzerInitialize(int *count, char ***words)
 {
     (void)count;
@@ -281,10 +305,15 @@ int LLVMFuzzerTestOneInput(const uint8_t *bytes, size_t length)
               two_bytes(bytes + 8) | (uint32_t)two_bytes(bytes + 10) << 16};
     at_the_end = (h.flags & 1) != 0;
     null_if_empty = (h.flags & 2) != 0;
-    if (h.flags & 4) {
-        try_rows(&h, bytes + HEAD, length - HEAD);
-    } else {
-        try_label(&h, bytes + HEAD, length - HEAD);
+    zielorad_reading readings[2] = {{0}};
+    for (int is_2025 = 0; is_2025 < 2; is_2025++) {
+        year = chosen_year(&h, is_2025 == 1);
+        if (h.flags & 4) {
+            try_rows(&h, bytes + HEAD, length - HEAD);
+        } else {
+            readings[is_2025] = try_label(&h, bytes + HEAD, length - HEAD);
+        }
     }
+    compare_editions(bytes + HEAD, readings[0], readings[1]);
     return 0;
 }
