@@ -22,11 +22,11 @@
 extern "C" {
 #endif
 
-/* The editions of ISO/IEC 15434 that there are. Each function's first argument picks one for that call. It is read as a year: below 2025
- * it is the edition of 2005, from 2025 on that of 2025. Any number will do, and none is refused.
+/* The editions of ISO/IEC 15434 that labels are read and written by. Each function's first argument picks one for that call. It is read
+ * as a year: below 2025 it is the edition of 2005, from 2025 on that of 2025. Any number will do, and none is refused.
  * Formats 01 to 07 and 09 are read by both, with the same rules. Two more are read by that of 2025, and refused with 6 by that of 2005:
  * - 12, for aircraft parts: GS, then elements with GS between them. An element is three capitals or digits, a space, and at least one
- *   plain byte. Each is a row of kind 3.
+ *   plain byte, 20 to 7E hex. Each is a row of kind 3.
  * - 15, for signed labels: a count of 1 to 15 digits right behind the indicator, GS, and so many bytes of any value. The count is a row of
  *   kind 2, these bytes are one of kind 7.
  * A label that is good by the edition of 2005 is good by that of 2025 too, with the same rows. */
