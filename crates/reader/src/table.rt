@@ -55,9 +55,9 @@ fn read_many(edition: Edition, message: &[u8], table: &mut [u32]) -> Reading
     }
 }
 
-// Reads a message of any bytes and any length, in an edition, into a table of any length, whose room is its length divided by the numbers of a row. Accepted:
-// the counts of envelopes and rows, and the table's first numbers are the rows'; what follows them stays as it was.
-// Refused: why, and where; the table stays as it was.
+// Reads a message of any bytes and any length, in an edition, into a table of any length, whose room is its length divided by the
+// numbers of a row. Accepted: the counts of envelopes and rows, and the table's first numbers are the rows'; what follows them
+// stays as it was. Refused: why, and where; the table stays as it was.
 pub fn read(edition: Edition, message: &[u8], table: &mut [u32]) -> Reading
     ensures answer { λ r. ⌜ answerOf r ≡ readAnswer edition (now (message .entry)) (roomOf (now (table .entry))) ⌝ }
     ensures rows { λ _. ⌜ now (table .exit) ≡ tableAfter edition (now (message .entry)) (now (table .entry)) ⌝ }

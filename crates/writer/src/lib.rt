@@ -36,9 +36,9 @@ fn same_rows(edition: Edition, m: &[u8], rows: &[u32]) -> bool
     true
 }
 
-// Puts the good message in an edition with these rows' kinds, formats, contents and ordinals into the first bytes of a buffer, and answers how
-// many they are; 0 where there is no such message. Rows of the same lengths that are laid out alike have the same contents, so
-// that no content is compared; and ordinals that are counted right are those of any message with these rows.
+// Puts the good message in an edition with these rows' kinds, formats, contents and ordinals into the first bytes of a buffer,
+// and answers how many they are; 0 where there is no such message. Rows of the same lengths that are laid out alike have the same
+// contents, so that no content is compared; and ordinals that are counted right are those of any message with these rows.
 fn compose(edition: Edition, held: &[u8], rows: &[u32], out: &mut [u8]) -> usize
     requires { ⌜ Buffered (now held) (now rows) (now out) ⌝ }
     ensures { λ r. ⌜ Composes (composed edition (itemsIn (now (held .entry)) (now (rows .entry))) (ordinalsIn (now (rows .entry)))) r (now (out .exit)) ⌝ }
@@ -60,9 +60,9 @@ fn compose(edition: Edition, held: &[u8], rows: &[u32], out: &mut [u8]) -> usize
     }
 }
 
-// Writes rows in an edition, five numbers each, that name stretches of the data held, to an output; all of any length. Written: how many
-// bytes, and the output's first bytes are the message; what follows them stays as it was. Declined: why, and the output stays
-// as it was.
+// Writes rows in an edition, five numbers each, that name stretches of the data held, to an output; all of any length. Written:
+// how many bytes, and the output's first bytes are the message; what follows them stays as it was. Declined: why, and the output
+// stays as it was.
 pub fn write(edition: Edition, held: &[u8], rows: &[u32], output: &mut [u8]) -> Writing
     ensures answer { λ r. ⌜ writeAnswerOf r ≡ writeAnswer edition (now (held .entry)) (now (rows .entry)) (length (now (output .entry))) ⌝ }
     ensures bytes { λ _. ⌜ now (output .exit) ≡ outputAfter edition (now (held .entry)) (now (rows .entry)) (now (output .entry)) ⌝ }
