@@ -1,11 +1,11 @@
 -- Bytes put one behind the other into a buffer are laid out: one turn, and the end.
-use Prim.Native.Nat.{ℕ, _+_, _-_, _%_, _≤_, _<_}
+use Prim.Native.Nat.{ℕ, suc, _+_, _-_, _%_, _≤_, _<_}
 use mathlib.Core.Path.{_≡_, refl, sym, ap, _∙_, subst}
 use mathlib.Core.Bool.{Bool, true, false, _&&_, cond}
-use mathlib.Core.List.{List, [], _++_, map, append-assoc, append-nil}
+use mathlib.Core.List.{List, [], _∷_, _++_, map, append-assoc, append-nil}
 use native.Mathlib.Omega.{arith}
-use lib.ListN.{length, getD, take, drop, length-append, length-take, length-drop}
-use lib.Seq.{take-append-seam, take-append-add, take-all}
+use lib.ListN.{length, getD, set, take, drop, length-append, length-take, length-drop}
+use lib.Seq.{take-append-seam, take-append-add, take-all, take-suc, set-split, drop-drop}
 use borrow.Author.Tests.{leb-true, leb-false, eqb-true, ne-eqb}
 use lib.Dec.{leb, eqb}
 use Rattle.label.specs.Bytes.{Bytes, every}
@@ -35,8 +35,8 @@ module _ (old : Bytes) (at : ℕ) (new : Bytes) where
   pub put-outside : length old < at → Put old at new old at
   put-outside outside = record { long = refl; started = λ inside. inside; fits = λ inside. absurd (omega arith); over = λ _. omega arith }
 
-  pub put-none : at ≤ length old → length old - at < length new → Put old at new old (length old + 1)
-  put-none inside short = record { long = refl; started = λ _. inside; fits = λ r. absurd (omega arith); over = λ _. omega arith }
+  pub put-none : length old < at + length new → Put old at new old (length old + 1)
+  put-none short = record { long = refl; started = λ r. absurd (omega arith); fits = λ r. absurd (omega arith); over = λ _. omega arith }
 
   pub put-some : (out : Bytes) → at + length new ≤ length old → out ≡ take at old ++ (new ++ drop (length new) (drop at old)) → Put old at new out (at + length new)
   put-some out room is =
@@ -88,6 +88,23 @@ module _ (old : Bytes) (at : ℕ) (new : Bytes) where
             (λ inside. let ends = put-ends mid r one inside in omega (arith, two .over (omega (arith, one .long)), one .long))
             (λ beyond. omega (arith, one .over beyond));
       }
+
+-- no bytes are put at once, and one byte by setting it
+module _ (old : Bytes) (at : ℕ) where
+  pub put-nothing : Put old at [] old at
+  put-nothing = record { long = refl; started = λ inside. inside; fits = λ _. sym (append-nil (take at old)); over = λ outside. omega arith }
+
+  pub put-set : (b : ℕ) → at < length old → Put old at (b ∷ []) (set old at b) (at + 1)
+  put-set b inside =
+      let next : suc at ≡ at + 1 = omega arith in
+      put-some old at (b ∷ []) (set old at b) (omega arith) (set-split old at b inside ∙ ap (λ l. take at old ++ (b ∷ l)) (ap (λ n. drop n old) next ∙ sym (drop-drop 1 at old)))
+
+-- the first of some bytes are put, and then the next
+pub put-next : (old : Bytes) (at : ℕ) (bytes : Bytes) (i : ℕ) → i < length bytes → (mid out : Bytes) (r r′ : ℕ) → Put old at (take i bytes) mid r → Put mid r (getD bytes i 0 ∷ []) out r′ → Put old at (take (i + 1) bytes) out r′
+put-next old at bytes i inside mid out r r′ one two =
+    let next : i + 1 ≡ suc i = omega arith in
+    subst (λ (new : Bytes). Put old at new out r′) (sym (ap (λ n. take n bytes) next ∙ take-suc bytes i 0 inside))
+    (put-both old at (take i bytes) (getD bytes i 0 ∷ []) mid out r r′ one two)
 
 module _ (w : Bytes) where
   pub laying-put : (new left old out : Bytes) (at r : ℕ) → Laying w (new ++ left) at old → Put old at new out r → Laying w left r out

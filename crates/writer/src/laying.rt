@@ -6,15 +6,15 @@ use crate::marks::ending_of;
 use crate::marks::heading;
 use given::row_from;
 use label::ROW;
-ghost use Prim.Native.Nat.{_≤_, _<_};
+ghost use Prim.Native.Nat.{_<_};
 ghost use mathlib.Core.Path.{_≡_};
-ghost use mathlib.Core.List.{[], _++_};
+ghost use mathlib.Core.List.{[], _∷_, _++_};
 ghost use lib.ListN.{length};
 ghost use Rattle.label.specs.Limits.{longest};
 ghost use Rattle.label.specs.Rendered.{rendered};
 ghost use Rattle.label.specs.Writing.{itemIn, itemsIn};
 ghost use Rattle.label.specs.Counting.{rowFrom};
-ghost use Rattle.writer.specs.Marks.{marksOf};
+ghost use Rattle.writer.specs.Marks.{Few, marksOf};
 ghost use Rattle.writer.specs.Laying.{RowAt, Put, Laying, marksBefore, Ready, Buffered};
 
 // Puts bytes into a buffer from an offset on, and answers the offset behind them.
@@ -31,21 +31,39 @@ fn put(out: &mut [u8], at: usize, new: &[u8]) -> usize
     at + bytes::copy(new, &mut out[at..])
 }
 
-// Puts marks.
+// Puts one byte.
+fn put_mark(out: &mut [u8], at: usize, mark: u8) -> usize
+    requires { ⌜ length (now out) ≡ longest ⌝ }
+    ensures { λ r. ⌜ Put (now (out .entry)) at (mark ∷ []) (now (out .exit)) r ⌝ }
+{
+    if out.len() <= at {
+        return out.len() + 1;
+    }
+    out[at] = mark;
+    at + 1
+}
+
+// Puts marks, one at a time: there are so few that a call to copy them takes longer.
 fn put_marks(out: &mut [u8], at: usize, marks: Marks) -> usize
     requires { ⌜ length (now out) ≡ longest ⌝ }
-    requires { ⌜ marks .count ≤ length (marks .bytes) ⌝ }
+    requires { ⌜ Few marks ⌝ }
     ensures { λ r. ⌜ Put (now (out .entry)) at (marksOf marks) (now (out .exit)) r ⌝ }
 {
     let bytes = marks.bytes;
     let count = marks.count;
-    put(out, at, &bytes[..count])
+    let mut end = at;
+    let mut i = 0;
+    while i < count {
+        end = put_mark(out, end, bytes[i]);
+        i += 1;
+    }
+    end
 }
 
 // What stands before the row from an index on.
 fn marks_before(rows: &[u32], i: usize) -> Marks
     requires { ⌜ RowAt (now rows) i ⌝ }
-    ensures few { λ r. ⌜ r .count ≤ length (r .bytes) ⌝ }
+    ensures few { λ r. ⌜ Few r ⌝ }
     ensures marks { λ r. ⌜ marksOf r ≡ marksBefore (now (rows .entry)) i ⌝ }
 {
     if i == 0 {

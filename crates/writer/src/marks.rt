@@ -7,17 +7,15 @@ use leaves::FS;
 use leaves::GS;
 use leaves::RS;
 use leaves::US;
-ghost use Prim.Native.Nat.{_≤_};
 ghost use mathlib.Core.Path.{_≡_};
 ghost use mathlib.Core.Bool.{_&&_};
 ghost use mathlib.Core.List.{[], _∷_};
-ghost use lib.ListN.{length};
 ghost use lib.Dec.{leb};
 ghost use Rattle.label.specs.Formats.{widest, ruleOf};
 ghost use Rattle.label.specs.Written.{tagRow, subElementRow};
 ghost use Rattle.label.specs.Message.{header};
 ghost use Rattle.label.specs.Rendered.{beforeValue, closing, marksBetween, ending};
-ghost use Rattle.writer.specs.Marks.{marksOf};
+ghost use Rattle.writer.specs.Marks.{Few, marksOf};
 
 // Some marks: as many of the bytes as count says. `marksOf` of specs/Marks has them.
 pub struct Marks {
@@ -26,7 +24,7 @@ pub struct Marks {
 }
 
 fn none() -> Marks
-    ensures few { λ r. ⌜ r .count ≤ length (r .bytes) ⌝ }
+    ensures few { λ r. ⌜ Few r ⌝ }
     ensures marks { λ r. ⌜ marksOf r ≡ [] ⌝ }
 {
     Marks {
@@ -36,7 +34,7 @@ fn none() -> Marks
 }
 
 fn one(b: u8) -> Marks
-    ensures few { λ r. ⌜ r .count ≤ length (r .bytes) ⌝ }
+    ensures few { λ r. ⌜ Few r ⌝ }
     ensures marks { λ r. ⌜ marksOf r ≡ b ∷ [] ⌝ }
 {
     Marks {
@@ -47,7 +45,7 @@ fn one(b: u8) -> Marks
 
 // The message's header.
 pub(crate) fn heading() -> Marks
-    ensures few { λ r. ⌜ r .count ≤ length (r .bytes) ⌝ }
+    ensures few { λ r. ⌜ Few r ⌝ }
     ensures marks { λ r. ⌜ marksOf r ≡ header ⌝ }
 {
     Marks {
@@ -58,7 +56,7 @@ pub(crate) fn heading() -> Marks
 
 // Before a header value, by the format.
 fn before_value(format: u32) -> Marks
-    ensures few { λ r. ⌜ r .count ≤ length (r .bytes) ⌝ }
+    ensures few { λ r. ⌜ Few r ⌝ }
     ensures marks { λ r. ⌜ marksOf r ≡ beforeValue (ruleOf widest format) ⌝ }
 {
     let shape = formats::shape_of(format as usize);
@@ -79,7 +77,7 @@ fn in_segment(p: u32) -> bool
 
 // Behind an envelope whose last row has a kind: FS ends a segment, RS the envelope.
 fn closing_of(p: u32) -> Marks
-    ensures few { λ r. ⌜ r .count ≤ length (r .bytes) ⌝ }
+    ensures few { λ r. ⌜ Few r ⌝ }
     ensures marks { λ r. ⌜ marksOf r ≡ closing p ⌝ }
 {
     if in_segment(p) {
@@ -93,7 +91,7 @@ fn closing_of(p: u32) -> Marks
 
 // Between a row of kind p and a row of kind k in a format.
 pub(crate) fn between(format: u32, p: u32, k: u32) -> Marks
-    ensures few { λ r. ⌜ r .count ≤ length (r .bytes) ⌝ }
+    ensures few { λ r. ⌜ Few r ⌝ }
     ensures marks { λ r. ⌜ marksOf r ≡ marksBetween (ruleOf widest format) p k ⌝ }
 {
     match k {
@@ -116,7 +114,7 @@ pub(crate) fn between(format: u32, p: u32, k: u32) -> Marks
 
 // Behind the last row, of kind p: the envelope's and the message's end; nothing where the format takes all the rest.
 pub(crate) fn ending_of(format: u32, p: u32) -> Marks
-    ensures few { λ r. ⌜ r .count ≤ length (r .bytes) ⌝ }
+    ensures few { λ r. ⌜ Few r ⌝ }
     ensures marks { λ r. ⌜ marksOf r ≡ ending (ruleOf widest format) p ⌝ }
 {
     let shape = formats::shape_of(format as usize);

@@ -1,4 +1,5 @@
 -- `put` copies where there is room.
+use native.Mathlib.Omega.{arith}
 use borrow.Author.Needs.{needs}
 use Rattle.writer.proofs.LayingLaws.{put-outside, put-none, put-copied}
 use Rattle.writer.proofs.laying.put.Statement.{statement}
@@ -18,7 +19,9 @@ add-result c = search needs
 returns-2 : tie.Need-returns-2
 returns-2 c =
     let args = c .before .before .before .before .args in
-    put-none (args .out .now) (args .at) (args .new .now) (c .before .if1 .left) (c .if2 .taken)
+    let inside = c .before .if1 .left in
+    let short = c .if2 .taken in
+    put-none (args .out .now) (args .at) (args .new .now) (omega arith)
 
 sub-copy : tie.Need-sub-copy
 sub-copy c = search needs
