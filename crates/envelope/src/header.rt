@@ -32,10 +32,10 @@ pub(crate) fn indicator(m: &[u8], at: usize) -> usize
         return 100;
     }
     let tens = decimal(m[at]);
-    let units = decimal(m[at + 1]);
     if 9 < tens {
         return 100;
     }
+    let units = decimal(m[at + 1]);
     if 9 < units {
         return 100;
     }

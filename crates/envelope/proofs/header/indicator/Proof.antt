@@ -1,5 +1,9 @@
 -- `indicator` is `indicatorOf` of the bytes from an offset on.
+use Prim.Native.Nat.{_+_}
+use mathlib.Core.Path.{refl}
 use native.Mathlib.Omega.{arith}
+use lib.ListN.{getD}
+use Rattle.envelope.specs.Headers.{decimalOf}
 use Rattle.envelope.proofs.HeaderLaws.{indicator-short, indicator-tens, indicator-units, indicator-both}
 use borrow.Author.Needs.{needs}
 use Rattle.envelope.proofs.header.indicator.Statement.{statement}
@@ -25,6 +29,14 @@ shared-slice-read-decimal c = search needs
 decimal-requires : tie.Need-decimal-requires
 decimal-requires c κs = search needs
 
+returns-3 : tie.Need-returns-3
+returns-3 c =
+    let args = c .before .before .before .before .before .before .args in
+    let long = c .before .before .before .before .if1 .left in
+    let inside = c .before .before .before .if2 .left in
+    let tens = c .before .decimal in
+    indicator-tens (args .m .now) (args .at) (tens .result) (decimalOf (getD (args .m .now) (args .at + 1) 0)) (omega arith) (tens .ensures) refl (c .if3 .taken)
+
 add-decimal : tie.Need-add-decimal
 add-decimal c = search needs
 
@@ -34,17 +46,14 @@ shared-slice-read-decimal-2 c = search needs
 decimal-requires-2 : tie.Need-decimal-requires-2
 decimal-requires-2 c κs = search needs
 
-returns-3 : tie.Need-returns-3
-returns-3 c =
-    let long = c .before .before .before .before .before .before .if1 .left in
-    let inside = c .before .before .before .before .before .if2 .left in
-    indicator-tens (c .before .before .before .before .before .before .before .before .args .m .now) (c .before .before .before .before .before .before .before .before .args .at) (c .before .before .before .decimal .result) (c .before .decimal2 .result) (omega arith) (c .before .before .before .decimal .ensures) (c .before .decimal2 .ensures) (c .if3 .taken)
-
 returns-4 : tie.Need-returns-4
 returns-4 c =
+    let args = c .before .before .before .before .before .before .before .before .before .args in
     let long = c .before .before .before .before .before .before .before .if1 .left in
     let inside = c .before .before .before .before .before .before .if2 .left in
-    indicator-units (c .before .before .before .before .before .before .before .before .before .args .m .now) (c .before .before .before .before .before .before .before .before .before .args .at) (c .before .before .before .before .decimal .result) (c .before .before .decimal2 .result) (omega arith) (c .before .before .before .before .decimal .ensures) (c .before .before .decimal2 .ensures) (c .if4 .taken)
+    let tens = c .before .before .before .before .decimal in
+    let units = c .before .decimal2 in
+    indicator-units (args .m .now) (args .at) (tens .result) (units .result) (omega arith) (tens .ensures) (units .ensures) (c .if4 .taken)
 
 mul-result : tie.Need-mul-result
 mul-result c = search needs
@@ -54,9 +63,12 @@ add-result c = search needs
 
 returns-5 : tie.Need-returns-5
 returns-5 c =
+    let args = c .before .before .before .before .before .before .before .before .before .args in
     let long = c .before .before .before .before .before .before .before .if1 .left in
     let inside = c .before .before .before .before .before .before .if2 .left in
-    indicator-both (c .before .before .before .before .before .before .before .before .before .args .m .now) (c .before .before .before .before .before .before .before .before .before .args .at) (c .before .before .before .before .decimal .result) (c .before .before .decimal2 .result) (omega arith) (c .before .before .before .before .decimal .ensures) (c .before .before .decimal2 .ensures) (c .before .if3 .left) (c .if4 .left)
+    let tens = c .before .before .before .before .decimal in
+    let units = c .before .decimal2 in
+    indicator-both (args .m .now) (args .at) (tens .result) (units .result) (omega arith) (tens .ensures) (units .ensures) (c .before .before .before .if3 .left) (c .if4 .left)
 
 pub indicator-spec : {M : Type 1} → statement M
 indicator-spec =
@@ -67,10 +79,10 @@ indicator-spec =
     returns-2
     shared-slice-read-decimal
     decimal-requires
+    returns-3
     add-decimal
     shared-slice-read-decimal-2
     decimal-requires-2
-    returns-3
     returns-4
     mul-result
     add-result
