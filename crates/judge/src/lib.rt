@@ -3,7 +3,6 @@ mod envelopes;
 
 use label::Edition;
 use label::HEADER;
-use label::HEADER_LENGTH;
 use label::LONGEST;
 use label::MOST_ROWS;
 use label::Reading;
@@ -55,10 +54,9 @@ pub fn judge(edition: Edition, m: &[u8]) -> Reading
     if LONGEST < m.len() {
         return refusal(Reason::TooLong, LONGEST);
     }
-    let begin = HEADER;
-    let agreed = tallies::agree(m, 0, &begin);
-    if agreed < HEADER_LENGTH {
-        return refusal(Reason::NoMessageHeader, agreed);
+    if !tallies::is_headed(m) {
+        let header = HEADER;
+        return refusal(Reason::NoMessageHeader, tallies::agree(m, 0, &header));
     }
     within_rows(envelopes::walk_envelopes(edition, m))
 }

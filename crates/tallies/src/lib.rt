@@ -1,6 +1,8 @@
-// What is counted in a stretch of bytes: how often a byte is there, how many agree with a text. Every function takes every input.
+// What is counted in a stretch of bytes: how often a byte is there, how many agree with a text; and whether a message begins with its header.
+mod header;
 mod text;
 
+pub use header::is_headed;
 pub use text::agree;
 ghost use mathlib.Core.Path.{_≡_};
 ghost use Prim.Native.Nat.{_≤_};
