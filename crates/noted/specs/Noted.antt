@@ -1,7 +1,7 @@
 -- What becomes of rows that are noted, whatever rows they are.
 use Prim.Native.Nat.{ℕ, _+_, _*_, _/_, _≤_}
 use mathlib.Core.Path.{_≡_}
-use mathlib.Core.Bool.{cond}
+use mathlib.Core.Bool.{Bool, _&&_, cond}
 use mathlib.Core.List.{List, [], _∷_, map}
 use lib.ListN.{length, getD}
 use lib.Dec.{ltb}
@@ -28,24 +28,27 @@ rowsNoted (k ∷ (f ∷ (s ∷ (l ∷ ns)))) = record { kind = k; format = f; st
 abbrev pub ordinalsNoted : ℕ → List Row → List ℕ
 ordinalsNoted envelopes rs = cond (ltb 1 envelopes) (byCounting (kindsOf rs)) (map (λ (r : Row). 0) rs)
 
--- the answer for the rows noted, given a table's room: 13 for more than a message may have, then 14
+-- rows of several envelopes are counted, and only so many as a message may have
+abbrev pub tooMany : ℕ → List Row → Bool
+tooMany envelopes rs = ltb 1 envelopes && ltb mostRows (length rs)
+
+-- the answer for the rows noted, given a table's room: 14 where that is too little, then 13
 abbrev pub answerFrom : ℕ → List ℕ → ℕ → List ℕ
 answerFrom envelopes notes room =
-    cond (ltb mostRows (length (rowsNoted notes))) (refusal TooManyRows 0)
-    (cond (ltb room (length (rowsNoted notes))) (refusal NoRoom 0)
+    cond (ltb room (length (rowsNoted notes))) (refusal NoRoom 0)
+    (cond (tooMany envelopes (rowsNoted notes)) (refusal TooManyRows 0)
     (accepted envelopes (length (rowsNoted notes))))
 
 -- a table afterwards
 abbrev pub tableFrom : ℕ → List ℕ → List ℕ → List ℕ
 tableFrom envelopes notes table =
-    cond (ltb mostRows (length (rowsNoted notes))) table
-    (cond (ltb (roomOf table) (length (rowsNoted notes))) table
+    cond (ltb (roomOf table) (length (rowsNoted notes))) table
+    (cond (tooMany envelopes (rowsNoted notes)) table
     (overlaid (allNumbers (rowsNoted notes) (ordinalsNoted envelopes (rowsNoted notes))) table))
 
--- so many rows are noted, no more than a message may have, and a table has room for them
+-- so many rows are noted, and a table has room for them
 pub record Copies (notes : List ℕ) (rows : ℕ) (table : List ℕ) : Type 0 where
   pub counted : rows ≡ length notes / noteWidth
-  pub few : rows ≤ mostRows
   pub roomy : rowWidth * rows ≤ length table
 
 -- a note, and room for its row

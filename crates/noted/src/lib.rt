@@ -15,7 +15,7 @@ ghost use Rattle.label.specs.Limits.{mostRows, rowWidth};
 ghost use Rattle.label.specs.Layout.{Row, numbers, allNumbers};
 ghost use Rattle.label.specs.Answer.{answerOf, refusal, roomOf, overlaid};
 ghost use Rattle.label.specs.Counting.{rowFrom, kindsOf, raised, byCounting};
-ghost use Rattle.noted.specs.Noted.{rowsNoted, ordinalsNoted, answerFrom, tableFrom, Copies, OneCopied, stretchFrom};
+ghost use Rattle.noted.specs.Noted.{rowsNoted, answerFrom, tableFrom, Copies, OneCopied, stretchFrom};
 
 // How many numbers a row is in the notes, and the length of notes with room for the most rows.
 pub const NOTE: usize = 4;
@@ -64,7 +64,7 @@ fn raised_by(ordinal: u32, kind: u16) -> u32
 
 // Copies the rows of several envelopes, counted by their indicators.
 fn copy_several(notes: &[u16], rows: usize, table: &mut [u32])
-    requires { ⌜ Copies (now notes) rows (now table) ⌝ }
+    requires { ⌜ Copies (now notes) rows (now table) × (rows ≤ mostRows) ⌝ }
     ensures { λ r. ⌜ now (table .exit) ≡ overlaid (allNumbers (rowsNoted (now (notes .entry))) (byCounting (kindsOf (rowsNoted (now (notes .entry)))))) (now (table .entry)) ⌝ }
 {
     if rows == 0 {
@@ -81,18 +81,6 @@ fn copy_several(notes: &[u16], rows: usize, table: &mut [u32])
     }
 }
 
-// Copies the rows of so many envelopes. Most labels have one, whose rows need no counting.
-fn copy_rows(envelopes: usize, notes: &[u16], rows: usize, table: &mut [u32])
-    requires { ⌜ Copies (now notes) rows (now table) ⌝ }
-    ensures { λ r. ⌜ now (table .exit) ≡ overlaid (allNumbers (rowsNoted (now (notes .entry))) (ordinalsNoted envelopes (rowsNoted (now (notes .entry))))) (now (table .entry)) ⌝ }
-{
-    if envelopes < 2 {
-        copy_alone(notes, rows, table);
-        return;
-    }
-    copy_several(notes, rows, table);
-}
-
 // Lack of room, or too many rows.
 fn refused_for(reason: Reason) -> Reading
     ensures { λ r. ⌜ answerOf r ≡ refusal reason 0 ⌝ }
@@ -101,20 +89,24 @@ fn refused_for(reason: Reason) -> Reading
 }
 
 // Hands the rows noted, of a message with so many envelopes, over to a table of any length, whose room is its length divided by the numbers of
-// a row: accepted, and the table's first numbers are the rows', each with its envelope's ordinal; or refused for lack of room, or for more rows
-// than a message may have, and the table stays as it was.
+// a row: accepted, and the table's first numbers are the rows', each with its envelope's ordinal; or refused for lack of room, or for too many
+// rows to be counted, and the table stays as it was. Most labels have one envelope, whose rows need no counting.
 pub fn hand_over(envelopes: usize, notes: &[u16], table: &mut [u32]) -> Reading
     ensures answer { λ r. ⌜ answerOf r ≡ answerFrom envelopes (now (notes .entry)) (roomOf (now (table .entry))) ⌝ }
     ensures rows { λ _. ⌜ now (table .exit) ≡ tableFrom envelopes (now (notes .entry)) (now (table .entry)) ⌝ }
 {
     let rows = notes.len() / NOTE;
+    if table.len() < ROW * rows {
+        return refused_for(Reason::NoRoom);
+    }
+    if envelopes < 2 {
+        copy_alone(notes, rows, table);
+        return Reading::Accepted(Counts { envelopes, rows });
+    }
     if MOST_ROWS < rows {
         return refused_for(Reason::TooManyRows);
     }
-    if table.len() / ROW < rows {
-        return refused_for(Reason::NoRoom);
-    }
-    copy_rows(envelopes, notes, rows, table);
+    copy_several(notes, rows, table);
     Reading::Accepted(Counts { envelopes, rows })
 }
 

@@ -22,11 +22,11 @@ use Rattle.label.specs.Message.{rowsOf, ordinalsOf}
 use Rattle.label.specs.ReadMessage.{Outcome, read, refused, reading}
 use Rattle.label.specs.Answer.{accepted, refusal, roomOf, overlaid, rowsRead, ordinalsRead}
 use Rattle.label.specs.Counting.{kindsOf, byCounting}
-use Rattle.label.proofs.Tests.{cond-no}
+use Rattle.label.proofs.Tests.{cond-no, right-fails}
 use Rattle.label.proofs.Ordinals.{ordinals-counted, ordinals-of-one}
 use Rattle.label.proofs.Answers.{rows-few}
 use Rattle.leaves.proofs.Turns.{four-there}
-use Rattle.noted.specs.Noted.{noteWidth, rowsNoted, ordinalsNoted, answerFrom, tableFrom, stretchFrom}
+use Rattle.noted.specs.Noted.{noteWidth, rowsNoted, ordinalsNoted, tooMany, answerFrom, tableFrom, stretchFrom}
 use Rattle.walk.specs.Cursors.{rowOf}
 use Rattle.stretches.specs.Stretches.{Lies}
 use Rattle.sweeps.specs.declared.Swept.{Swept}
@@ -116,16 +116,16 @@ handed-so edition m counts notes table handed =
     let all = rowsRead (reading edition m) in
     let many = rows-judged edition m counts (handed .judged) in
     let rows = all-noted edition m notes (counts .rows) (handed .kept) (handed .roomy) many in
-    let few = le-ltb mostRows (length all) (rows-few edition m) in
+    let few = right-fails (ltb 1 (counts .envelopes)) (le-ltb mostRows (length all) (rows-few edition m)) in
     let os = ordinals-noted (reading edition m) counts (handed .judged) in
     let so = is-accepted edition m table counts (handed .judged) in
     record {
       answered-so =
-          (λ j. cond (ltb mostRows (length (rows j))) (refusal TooManyRows 0) (cond (ltb (roomOf table) (length (rows j))) (refusal NoRoom 0) (accepted (counts .envelopes) (length (rows j)))))
-          ∙ cond-no _ _ _ few ∙ (λ j. cond (ltb (roomOf table) (sym many j)) (refusal NoRoom 0) (accepted (counts .envelopes) (sym many j))) ∙ so .answered-so;
+          (λ j. cond (ltb (roomOf table) (length (rows j))) (refusal NoRoom 0) (cond (tooMany (counts .envelopes) (rows j)) (refusal TooManyRows 0) (accepted (counts .envelopes) (length (rows j)))))
+          ∙ ap (cond (ltb (roomOf table) (length all)) (refusal NoRoom 0)) (cond-no _ _ _ few) ∙ (λ j. cond (ltb (roomOf table) (sym many j)) (refusal NoRoom 0) (accepted (counts .envelopes) (sym many j))) ∙ so .answered-so;
       filled-so =
-          (λ j. cond (ltb mostRows (length (rows j))) table (cond (ltb (roomOf table) (length (rows j))) table (overlaid (allNumbers (rows j) (ordinalsNoted (counts .envelopes) (rows j))) table)))
-          ∙ cond-no _ _ _ few ∙ (λ j. cond (ltb (roomOf table) (sym many j)) table (overlaid (allNumbers all (os j)) table)) ∙ so .filled-so;
+          (λ j. cond (ltb (roomOf table) (length (rows j))) table (cond (tooMany (counts .envelopes) (rows j)) table (overlaid (allNumbers (rows j) (ordinalsNoted (counts .envelopes) (rows j))) table)))
+          ∙ ap (cond (ltb (roomOf table) (length all)) table) (cond-no _ _ _ few) ∙ (λ j. cond (ltb (roomOf table) (sym many j)) table (overlaid (allNumbers all (os j)) table)) ∙ so .filled-so;
     }
 
 -- likewise of the note of its only row

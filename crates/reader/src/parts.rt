@@ -1,4 +1,5 @@
 // The part of a message that a row names, handed back uncopied.
+use crate::quick::framed;
 use crate::quick::sweep;
 use label::Edition;
 use label::MOST_ROWS;
@@ -16,6 +17,9 @@ ghost use Rattle.stretches.specs.Stretches.{Lies};
 pub fn stretch_of(edition: Edition, m: &[u8], row: usize) -> Stretch
     ensures { λ r. ⌜ Lies edition (now (m .entry)) row (r .start) (r .length) ⌝ }
 {
+    if !framed(m) {
+        return stretches::stretch_exactly(edition, m, row);
+    }
     let mut note = [0u16; NOTE];
     let swept = sweep(
         edition,

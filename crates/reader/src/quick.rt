@@ -10,4 +10,5 @@ mod segments;
 mod text;
 mod transport;
 
+pub(crate) use message::framed;
 pub(crate) use message::sweep;

@@ -1,5 +1,6 @@
 // Reading a message into a lent table: the whole message is judged first, and only then are its rows filled in. A good message is mostly
 // judged by the quick path, which notes the rows; what that leaves is read exactly.
+use crate::quick::framed;
 use crate::quick::sweep;
 use label::Counts;
 use label::Edition;
@@ -11,7 +12,7 @@ use sweeps::Swept;
 use sweeps::Wanted;
 ghost use mathlib.Core.Path.{_≡_};
 ghost use Rattle.label.specs.Answer.{answerOf, roomOf, readAnswer, tableAfter};
-ghost use Rattle.sweeps.specs.Quick.{Handed};
+ghost use Rattle.sweeps.specs.Quick.{Headed, Handed};
 
 // Most labels have no more rows than this, and notes for the most rows take long to clear.
 const FEW_ROWS: usize = 64;
@@ -36,6 +37,7 @@ fn hand_over(
 
 // With notes for as many rows as a message may have.
 fn read_many(edition: Edition, message: &[u8], table: &mut [u32]) -> Reading
+    requires { ⌜ Headed (now message) ⌝ }
     ensures answer { λ r. ⌜ answerOf r ≡ readAnswer edition (now (message .entry)) (roomOf (now (table .entry))) ⌝ }
     ensures rows { λ _. ⌜ now (table .exit) ≡ tableAfter edition (now (message .entry)) (now (table .entry)) ⌝ }
 {
@@ -62,6 +64,9 @@ pub fn read(edition: Edition, message: &[u8], table: &mut [u32]) -> Reading
     ensures answer { λ r. ⌜ answerOf r ≡ readAnswer edition (now (message .entry)) (roomOf (now (table .entry))) ⌝ }
     ensures rows { λ _. ⌜ now (table .exit) ≡ tableAfter edition (now (message .entry)) (now (table .entry)) ⌝ }
 {
+    if !framed(message) {
+        return exact::read_exactly(edition, message, table);
+    }
     let mut notes = [0u16; FEW_NOTES];
     let swept = sweep(
         edition,

@@ -1,10 +1,10 @@
 -- From a swept body to its format, and from a format to its envelope: what is found by offsets is what reading shows, and the walk stands at the next indicator.
 use Prim.Native.Nat.{ℕ, _+_, _-_, _*_, _≤_, _<_}
 use mathlib.Core.Path.{_≡_, refl, sym, ap, _∙_, subst}
-use mathlib.Core.Bool.{Bool, true, false, not, _&&_, _||_, cond}
+use mathlib.Core.Bool.{Bool, true, false, _&&_, _||_, cond}
 use mathlib.Core.List.{List, [], _∷_}
 use native.Mathlib.Omega.{arith}
-use borrow.Author.Tests.{le-leb, ltb-false, eqb-true}
+use borrow.Author.Tests.{le-leb, ltb-false}
 use lib.ListN.{length, getD, take, drop, length-take, length-drop}
 use lib.Seq.{drop-drop, getD-drop, getD-at, length-take-le}
 use lib.Dec.{eqb, ltb}
@@ -41,7 +41,7 @@ use Rattle.sweeps.specs.declared.Wanted.{Wanted}
 use Rattle.walk.specs.Cursors.{ahead, standing, plainRow, indicatorAt, opening, following, nextCursor}
 use Rattle.sweeps.specs.Quick.{Framed, Noted, Notable, NotedOne, Indicates, ElementsOf, BodySwept, FormatSwept, KnownSwept, EnvelopeSwept, StandsAt}
 use Rattle.sweeps.proofs.ElementEnds.{neither}
-use Rattle.sweeps.proofs.Framing.{byte-behind}
+use Rattle.sweeps.proofs.Framing.{byte-behind, digit-behind}
 
 module _ (m : Bytes) (at : ℕ) (inside : at < length m) where
   -- one byte further
@@ -144,33 +144,36 @@ pub is-digit : (b : ℕ) → (ltb b 0x30 || ltb 0x39 b) ≡ false → (0x30 ≤ 
 is-digit b is = let k = neither (ltb b 0x30) (ltb 0x39 b) is in (ltb-false b 0x30 (k .0), ltb-false 0x39 b (k .1))
 
 -- two digits at an offset
-pub indicates : (m : Bytes) (at t f : ℕ) → 3 ≤ length m - at → getD m at 0 ≡ 0x30 + t → t ≤ 9 → 0x30 ≤ getD m (at + 1) 0 → getD m (at + 1) 0 ≤ 0x39
+pub indicates : (m : Bytes) (framed : Framed m) (at t f : ℕ) → at + 1 < length m → getD m at 0 ≡ 0x30 + t → t ≤ 9 → 0x30 ≤ getD m (at + 1) 0 → getD m (at + 1) 0 ≤ 0x39
     → f ≡ 10 * t + (getD m (at + 1) 0 - 0x30) → Indicates m at f
 unfolding digit between indicatorAt
-indicates m at t f long tens small least most is =
+indicates m framed at t f inside tens small least most is =
     let a = getD m at 0 in
     let b = getD m (at + 1) 0 in
+    let unit : digit b ≡ true = and-both (le-leb 0x30 b least) (le-leb b 0x39 most) in
+    let more = digit-behind m framed (at + 1) inside unit in
     let sum : 10 * (10 * 0 + (a - 0x30)) + (b - 0x30) ≡ f = omega (arith, tens, is) in
     let said : 10 * (a - 0x30) + (b - 0x30) ≡ f = omega (arith, tens, is) in
     record {
+      more = omega arith;
       says = ap indicatorOf (drop-two m at (omega arith))
           ∙ cond-yes (digit a && digit b) (value (a ∷ b ∷ [])) 100
-          (and-both (and-both (le-leb 0x30 a (omega (arith, tens))) (le-leb a 0x39 (omega (arith, tens)))) (and-both (le-leb 0x30 b least) (le-leb b 0x39 most)))
+          (and-both (and-both (le-leb 0x30 a (omega (arith, tens))) (le-leb a 0x39 (omega (arith, tens)))) unit)
           ∙ sum;
       row = ap (λ n. standing Indicator n at 2) said;
       known = omega (arith, is);
     }
 
-module _ (m : Bytes) (framed : Framed m) (from at rows f : ℕ) (long : 3 ≤ length m - at) (is : Indicates m at f) where
+module _ (m : Bytes) (framed : Framed m) (from at rows f : ℕ) (is : Indicates m at f) where
   abbrev indicator-row : Cursor
   indicator-row = standing Indicator f at 2
 
   indicator-next : nextCursor m indicator-row ≡ opening m f (at + 2) (ruleOf widest f)
   unfolding nextCursor following
-  indicator-next = let there : ahead m at 2 ≡ at + 2 = omega (arith, length-take 2 (drop at m), length-drop at m) in ap (λ e. opening m f e (ruleOf widest f)) there
+  indicator-next = let there : ahead m at 2 ≡ at + 2 = omega (arith, is .more, length-take 2 (drop at m), length-drop at m) in ap (λ e. opening m f e (ruleOf widest f)) there
 
   pub indicator-notable : (c : Cursor) → c ≡ indicator-row → rows ≤ mostRows → Notable rows c
-  indicator-notable c same few = subst (Notable rows) (sym same) (record { few = omega arith; inside = omega (arith, framed .short); known = is .known })
+  indicator-notable c same few = subst (Notable rows) (sym same) (record { few = omega arith; inside = omega (arith, is .more, framed .short); known = is .known })
 
   pub format-due : (old new : List ℕ) (c : Cursor) → c ≡ indicator-row → Noted m from old rows (indicatorAt m at) → NotedOne from old new rows c
       → Noted m from new (rows + 1) (opening m f (at + 2) (ruleOf widest f))

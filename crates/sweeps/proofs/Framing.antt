@@ -2,17 +2,15 @@
 use Prim.Native.Nat.{ℕ, _+_, _-_, _≤_, _<_}
 use mathlib.Core.Path.{_≡_, refl, sym, ap, _∙_}
 use mathlib.Core.Bool.{Bool, true, false, _&&_, true≢false}
-use native.Mathlib.Nat.{zero-add}
 use native.Mathlib.Omega.{arith}
-use borrow.Author.Tests.{ltb-true, ltb-false, eqb-true}
-use lib.ListN.{length, getD, drop}
-use lib.Dec.{eqb, ltb}
+use borrow.Author.Tests.{leb-true, ltb-true, ltb-false, eqb-true}
+use lib.ListN.{length, getD}
+use lib.Dec.{eqb, leb, ltb}
 use Rattle.label.specs.Bytes.{Bytes, EOT, between, digit}
 use Rattle.label.specs.Limits.{longest}
 use Rattle.label.specs.Message.{header}
 use Rattle.label.specs.ReadMessage.{agreement}
 use Rattle.label.proofs.Tests.{both}
-use Rattle.tallies.proofs.Agreement.{agree-on}
 use Rattle.sweeps.specs.Quick.{IfSo, Framed, Headed}
 
 module _ (m : Bytes) (framed : Framed m) (i : ℕ) (inside : i < length m) where
@@ -38,25 +36,12 @@ module _ (m : Bytes) (framed : Framed m) (i : ℕ) (inside : i < length m) where
   unfolding digit between
   digit-behind is = class-behind digit refl is
 
--- the frame: EOT at the end, and the header in front as far as it was looked at
-pub record HeadedSoFar (m : Bytes) (i : ℕ) : Type 0 where
-  pub ends : getD m (length m - 1) 0 ≡ EOT
-  pub agrees : i + agreement (drop i header) (drop i m) ≡ agreement header m
-
-pub headed-none : (m : Bytes) → IfSo (eqb (getD m (length m - 1) 0) EOT) (HeadedSoFar m 0)
-headed-none m so = record { ends = eqb-true _ EOT so; agrees = zero-add _ }
-
-module _ (m : Bytes) (long : length header < length m) (i : ℕ) where
-  pub headed-turn : (same : Bool) → IfSo same (HeadedSoFar m i) → i < length header → IfSo (same && eqb (getD m i 0) (getD header i 0)) (HeadedSoFar m (i + 1))
-  headed-turn same before inside so =
-      let k = both same (eqb (getD m i 0) (getD header i 0)) so in
-      let h = before (k .left) in
-      let on = agree-on header m i i inside (omega arith) (eqb-true _ _ (k .right)) in
-      record { ends = h .ends; agrees = omega (arith, on, h .agrees) }
-
-  pub headed-by : length m ≤ longest → length header ≤ i → HeadedSoFar m i → Headed m
-  headed-by short past h = record {
-    framed = record { some = omega arith; short = short; ends = h .ends };
-    begins = omega (arith, h .agrees);
-    long = long;
-  }
+-- how such a frame is told
+pub headed-by : (m : Bytes) (same : Bool) → length header + 1 < length m → length m ≤ longest → same ≡ leb (length header) (agreement header m) → IfSo (same && eqb (getD m (length m - 1) 0) EOT) (Headed m)
+headed-by m same long short is so =
+    let k = both same (eqb (getD m (length m - 1) 0) EOT) so in
+    record {
+      framed = record { some = omega arith; short = short; ends = eqb-true _ EOT (k .right) };
+      begins = leb-true (length header) (agreement header m) (sym is ∙ k .left);
+      long = long;
+    }

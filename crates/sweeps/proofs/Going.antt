@@ -24,6 +24,7 @@ use Rattle.sweeps.specs.declared.Wanted.{Wanted}
 use Rattle.sweeps.specs.declared.Swept.{Swept}
 use Rattle.sweeps.specs.declared.Swept.the-variants.{Good, Full, Left}
 use Rattle.walk.specs.Cursors.{indicatorAt, firstCursor}
+use Rattle.sweeps.proofs.Framing.{more-behind}
 use Rattle.sweeps.specs.Quick.{Headed, Kept, Noted, EnvelopeSwept, FirstAt, SaysNothing, EndsSo, SweptSo}
 
 abbrev stateOf : ℕ → Bool → ℕ → ℕ → State
@@ -35,7 +36,7 @@ pub record Going (edition : Edition) (m : Bytes) (from : ℕ) (notes : List ℕ)
   pub first : Bool
   pub only : FirstAt at first
   pub behind : 4 ≤ at
-  pub inside : at < length m
+  pub inside : at + 1 < length m
   pub sound : Sound m (stateOf at first envelopes rows)
   pub same : resultOf edition m (stateOf at first envelopes rows) ≡ tallied 0 0 (unboundedWalk edition m true (drop 4 m))
   pub noted : Noted m from notes rows (indicatorAt m at)
@@ -80,7 +81,7 @@ module _ (edition : Edition) (m : Bytes) (from : ℕ) (notes : List ℕ) (at env
         first = false;
         only = λ is. absurd (omega (arith, later, going .behind, is));
         behind = omega (arith, later, going .behind);
-        inside = swept .inside;
+        inside = more-behind m (going .headed .framed) (p .next) (swept .inside) other;
         sound = so .further .0;
         same = so .same ∙ going .same;
         noted = swept .noted;

@@ -38,11 +38,11 @@ pub record Framed (m : Bytes) : Type 0 where
   pub short : length m ≤ longest
   pub ends : getD m (length m - 1) 0 ≡ EOT
 
--- with the message's header in front of more
+-- with the message's header in front of a byte and the EOT at least
 pub record Headed (m : Bytes) : Type 0 where
   pub framed : Framed m
   pub begins : length header ≤ agreement header m
-  pub long : length header < length m
+  pub long : length header + 1 < length m
 
 -- at most n digits in front
 abbrev pub digitRun : ℕ → Bytes → ℕ
@@ -109,8 +109,9 @@ NotedOne from old new row c = (m : Bytes) → Noted m from old row c → Noted m
 
 -- Envelopes
 
--- an indicator stands at an offset, the number of its format is f, and its row is the walk's
+-- an indicator stands at an offset, with more behind it; the number of its format is f, and its row is the walk's
 pub record Indicates (m : Bytes) (at f : ℕ) : Type 0 where
+  pub more : at + 2 < length m
   pub says : indicatorOf (drop at m) ≡ f
   pub row : indicatorAt m at ≡ standing Indicator f at 2
   pub known : f ≤ 99

@@ -16,12 +16,12 @@ abbrev μ-loop : tie.MeasureT-loop
 μ-loop notes rows table₁ later ordinal₀ i₀ table ordinal i = later - i
 
 returns : tie.Need-returns Inv-loop μ-loop
-returns c = let args = c .before .before .before .args in several-none (args .notes .now) (args .rows) (args .table .now) (c .before .before .before .pre) (c .if1 .taken)
+returns c = let args = c .before .before .before .args in several-none (args .notes .now) (args .rows) (args .table .now) (c .before .before .before .pre .0) (c .if1 .taken)
 
 copy-row-requires : tie.Need-copy-row-requires Inv-loop μ-loop
 copy-row-requires c κs =
     let args = c .before .before .before .before .args in
-    let pre = c .before .before .before .before .pre in
+    let pre = c .before .before .before .before .pre .0 in
     record { noted = note-fits (args .notes .now) (args .rows) (args .table .now) pre 0 (omega (arith, c .before .if1 .left)); roomy = omega (arith, pre .roomy, c .before .if1 .left) }
 
 sub-later : tie.Need-sub-later Inv-loop μ-loop
@@ -43,17 +43,18 @@ shared-slice-read-raised-by : tie.Need-shared-slice-read-raised-by Inv-loop μ-l
 shared-slice-read-raised-by c =
     let args = c .before .before .before .before .before .before .before .before .before .before .args in
     let at = c .before .before .loop in
-    omega (arith, note-fits (args .notes .now) (args .rows) (args .table .now) (c .before .before .before .before .before .before .before .before .before .before .pre) (at .i + 1) (omega (arith, c .before .loop-test .taken)))
+    omega (arith, note-fits (args .notes .now) (args .rows) (args .table .now) (c .before .before .before .before .before .before .before .before .before .before .pre .0) (at .i + 1) (omega (arith, c .before .loop-test .taken)))
 
 raised-by-requires : tie.Need-raised-by-requires Inv-loop μ-loop
 raised-by-requires c κs =
     let args = c .before .before .before .before .before .before .before .before .before .before .args in
-    let pre = c .before .before .before .before .before .before .before .before .before .before .pre in
+    let pre = c .before .before .before .before .before .before .before .before .before .before .pre .0 in
+    let few = c .before .before .before .before .before .before .before .before .before .before .pre .1 in
     let put = c .before .before .before .before .before .copy-row in
     let at = c .before .before .loop in
     let less = c .before .loop-test .taken in
     let first = several-first (args .notes .now) (args .rows) (args .table .now) pre (omega (arith, c .before .before .before .before .before .before .before .if1 .left)) (put .last .1 .1 .0) (put .ensures) in
-    omega (arith, pre .few, several-small (args .notes .now) (args .rows) (args .table .now) pre (at .table) (at .ordinal) (at .i) (at .inv .1 (args .table .now) pre first) (omega (arith, less)))
+    omega (arith, few, several-small (args .notes .now) (args .rows) (args .table .now) pre (at .table) (at .ordinal) (at .i) (at .inv .1 (args .table .now) pre first) (omega (arith, less)))
 
 mul-copy-row : tie.Need-mul-copy-row Inv-loop μ-loop
 mul-copy-row c = search needs
@@ -70,7 +71,7 @@ add-copy-row-2 c = search needs
 copy-row-requires-2 : tie.Need-copy-row-requires-2 Inv-loop μ-loop
 copy-row-requires-2 c κs =
     let args = c .before .before .before .before .before .before .before .before .before .before .before .before .args in
-    let pre = c .before .before .before .before .before .before .before .before .before .before .before .before .pre in
+    let pre = c .before .before .before .before .before .before .before .before .before .before .before .before .pre .0 in
     let put = c .before .before .before .before .before .before .before .copy-row in
     let at = c .before .before .before .before .loop in
     let less = c .before .before .before .loop-test .taken in
@@ -100,20 +101,20 @@ loop-again c =
 same-length : tie.Need-same-length Inv-loop μ-loop
 same-length c =
     let args = c .before .before .before .before .before .before .before .before .before .args in
-    let pre = c .before .before .before .before .before .before .before .before .before .pre in
+    let pre = c .before .before .before .before .before .before .before .before .before .pre .0 in
     let put = c .before .before .before .before .copy-row in
     let at = c .before .loop in
     let first = several-first (args .notes .now) (args .rows) (args .table .now) pre (omega (arith, c .before .before .before .before .before .before .if1 .left)) (put .last .1 .1 .0) (put .ensures) in
-    several-length (args .notes .now) (args .rows) (args .table .now) (c .before .before .before .before .before .before .before .before .before .pre) (at .table) (at .ordinal) (at .i) (at .inv .1 (args .table .now) pre first)
+    several-length (args .notes .now) (args .rows) (args .table .now) (c .before .before .before .before .before .before .before .before .before .pre .0) (at .table) (at .ordinal) (at .i) (at .inv .1 (args .table .now) pre first)
 
 returns-2 : tie.Need-returns-2 Inv-loop μ-loop
 returns-2 c =
     let args = c .before .before .before .before .before .before .before .before .before .args in
-    let pre = c .before .before .before .before .before .before .before .before .before .pre in
+    let pre = c .before .before .before .before .before .before .before .before .before .pre .0 in
     let put = c .before .before .before .before .copy-row in
     let at = c .before .loop in
     let first = several-first (args .notes .now) (args .rows) (args .table .now) pre (omega (arith, c .before .before .before .before .before .before .if1 .left)) (put .last .1 .1 .0) (put .ensures) in
-    several-last (args .notes .now) (args .rows) (args .table .now) (c .before .before .before .before .before .before .before .before .before .pre) (at .table) (at .ordinal) (at .i) (at .inv .1 (args .table .now) pre first) (omega (arith, c .loop-test .left))
+    several-last (args .notes .now) (args .rows) (args .table .now) (c .before .before .before .before .before .before .before .before .before .pre .0) (at .table) (at .ordinal) (at .i) (at .inv .1 (args .table .now) pre first) (omega (arith, c .loop-test .left))
 
 pub copy-several-spec : {M : Type 1} → statement M
 copy-several-spec =

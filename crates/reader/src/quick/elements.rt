@@ -65,7 +65,8 @@ fn element_end(m: &[u8], k: Kind, at: usize) -> usize
     }
 }
 
-// Elements from an offset on, up to an RS: a turn takes an element and the byte behind it.
+// Elements from an offset on, up to an RS: a turn takes an element and the byte behind it, which is looked at before the element is noted, as
+// the sweep still has it in hand.
 fn sweep_pieces(
     m: &[u8],
     w: Wanted,
@@ -85,6 +86,7 @@ fn sweep_pieces(
         if end == 0 {
             return given_up(rows);
         }
+        let b = m[end];
         note(
             notes,
             w.from,
@@ -92,7 +94,6 @@ fn sweep_pieces(
             standing_at(Stage::Piece, f, at, end - at),
         );
         rows += 1;
-        let b = m[end];
         if b == RS {
             return Passed {
                 next: end + 1,

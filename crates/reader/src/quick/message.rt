@@ -11,7 +11,6 @@ use formats::Shape;
 use formats::shape_in;
 use label::Counts;
 use label::Edition;
-use label::HEADER;
 use label::HEADER_LENGTH;
 use label::LONGEST;
 use leaves::EOT;
@@ -21,12 +20,12 @@ use sweeps::Swept;
 use sweeps::Wanted;
 use walk::Stage;
 use walk::standing_at;
-ghost use Prim.Native.Nat.{_-_, _≤_, _<_};
+ghost use Prim.Native.Nat.{_+_, _≤_, _<_};
 ghost use lib.ListN.{length};
 ghost use Rattle.label.specs.Limits.{mostRows};
 ghost use Rattle.label.specs.Formats.{widest, ruleOf};
 ghost use Rattle.walk.specs.Cursors.{indicatorAt, opening};
-ghost use Rattle.sweeps.specs.Quick.{IfAny, IfFormat, Indicates, KnownSwept, EnvelopeSwept, IfSo, Headed, SaysNothing, EndsSo, SweptSo, StandsAt};
+ghost use Rattle.sweeps.specs.Quick.{Framed, IfAny, IfFormat, Indicates, KnownSwept, EnvelopeSwept, IfSo, Headed, SaysNothing, EndsSo, SweptSo, StandsAt};
 
 // The format with a number, behind its indicator, by the shape that the edition gives it.
 fn sweep_format(
@@ -56,9 +55,10 @@ fn sweep_format(
     }
 }
 
-// The number of an indicator of a format that is swept, 00 to 19; 100 where another stands there, or none.
+// The number of an indicator of a format that is swept, 00 to 19; 100 where another stands there, or none. Behind a digit there is more, as the
+// message ends with EOT.
 fn format_at(m: &[u8], at: usize) -> u32
-    requires { ⌜ 3 ≤ length (now m) - at ⌝ }
+    requires { ⌜ Framed (now m) × (at + 1 < length (now m)) ⌝ }
     ensures { λ r. ⌜ IfFormat r (Indicates (now (m .entry)) at r) ⌝ }
 {
     let tens = m[at];
@@ -85,12 +85,9 @@ fn sweep_envelope(
     rows: usize,
     notes: &mut [u16],
 ) -> Passed
-    requires { ⌜ StandsAt (now m) w at rows (now notes) (indicatorAt (now m) at) ⌝ }
+    requires { ⌜ StandsAt (now m) w at rows (now notes) (indicatorAt (now m) at) × (at + 1 < length (now m)) ⌝ }
     ensures { λ r. ⌜ IfAny (r .next) (EnvelopeSwept edition (now (m .entry)) (w .from) at rows r (now (notes .exit))) ⌝ }
 {
-    if m.len() - at < 3 {
-        return given_up(rows);
-    }
     if w.most <= rows {
         return given_up(rows);
     }
@@ -102,25 +99,17 @@ fn sweep_envelope(
     sweep_format(edition, m, w, f, at + 2, rows + 1, notes)
 }
 
-// Whether a message is short enough, begins with its header and ends with EOT.
-fn framed(m: &[u8]) -> bool
+// Whether a message is short enough, begins with its header and ends with EOT, with a byte between them at least. Others aren't swept.
+pub(crate) fn framed(m: &[u8]) -> bool
     ensures { λ r. ⌜ IfSo r (Headed (now (m .entry))) ⌝ }
 {
-    if m.len() <= HEADER_LENGTH {
+    if m.len() <= HEADER_LENGTH + 1 {
         return false;
     }
     if LONGEST < m.len() {
         return false;
     }
-    let last = m.len() - 1;
-    let begin = HEADER;
-    let mut same = m[last] == EOT;
-    let mut i = 0;
-    while i < HEADER_LENGTH {
-        same = same & (m[i] == begin[i]);
-        i += 1;
-    }
-    same
+    tallies::is_headed(m) & (m[m.len() - 1] == EOT)
 }
 
 // What is said of a message that isn't swept to its end.
@@ -148,14 +137,11 @@ fn ended(m: &[u8], at: usize, envelopes: usize, rows: usize, most: usize) -> Swe
     Swept::Left
 }
 
-// Sweeps a whole message in an edition, an envelope a turn. The rows that are wanted are in the notes where it says `Good`.
+// Sweeps a whole message that is framed, in an edition, an envelope a turn. The rows that are wanted are in the notes where it says `Good`.
 pub(crate) fn sweep(edition: Edition, m: &[u8], w: Wanted, notes: &mut [u16]) -> Swept
-    requires { ⌜ w .most ≤ mostRows ⌝ }
+    requires { ⌜ (w .most ≤ mostRows) × Headed (now m) ⌝ }
     ensures { λ r. ⌜ SweptSo edition (now (m .entry)) w (now (notes .exit)) r ⌝ }
 {
-    if !framed(m) {
-        return Swept::Left;
-    }
     let most = w.most;
     let mut at = HEADER_LENGTH;
     let mut envelopes = 0;

@@ -64,8 +64,8 @@ fn sweep_later(
 {
     let mut end = start;
     let mut rows = before;
+    let mut b = m[end];
     loop {
-        let b = m[end];
         if b == FS {
             return Passed {
                 next: end + 1,
@@ -80,6 +80,7 @@ fn sweep_later(
         }
         let at = end + 1;
         end = run_end(m, Class::Plain, at);
+        let behind = m[end];
         note(
             notes,
             w.from,
@@ -87,6 +88,7 @@ fn sweep_later(
             standing_at(stage_behind(b), f, at, end - at),
         );
         rows += 1;
+        b = behind;
     }
 }
 

@@ -97,10 +97,10 @@ fn sweep_fields(
         if end == 0 {
             return given_up(rows);
         }
+        let b = m[end];
         let size = end - at;
         note(notes, w.from, rows, standing_at(Stage::Piece, 1, at, size));
         rows += 1;
-        let b = m[end];
         if b == RS {
             return Passed {
                 next: behind_last(limit, rows - before, size, end + 1),

@@ -37,7 +37,7 @@ returns c = λ some. absurd (omega (arith, c .given-up .ensures))
 
 sub-standing-at : tie.Need-sub-standing-at Inv-loop μ-loop
 sub-standing-at c =
-    let to = c .before .before .element-end .ensures (omega (arith, c .before .if2 .left)) in
+    let to = c .before .before .before .element-end .ensures (omega (arith, c .before .before .if2 .left)) in
     let runs = to .runs .runs in
     search needs
 
@@ -46,20 +46,20 @@ standing-at-requires c κs = search needs
 
 note-requires : tie.Need-note-requires Inv-loop μ-loop
 note-requires c κs =
-    let args = c .before .before .before .before .before .before .before .before .before .args in
-    let pre = c .before .before .before .before .before .before .before .before .before .pre in
-    let at = c .before .before .before .before .before .before .loop in
-    let end = c .before .before .before .element-end in
-    let to = end .ensures (omega (arith, c .before .before .if2 .left)) in
+    let args = c .before .before .before .before .before .before .before .before .before .before .args in
+    let pre = c .before .before .before .before .before .before .before .before .before .before .pre in
+    let at = c .before .before .before .before .before .before .before .loop in
+    let end = c .before .before .before .before .element-end in
+    let to = end .ensures (omega (arith, c .before .before .before .if2 .left)) in
     subst (λ (row : Cursor). Notable (at .rows) row) (sym (c .standing-at .ensures))
-    (run-notable (args .m .now) (args .f) (at .at) (end .result) (to .runs) Piece (at .rows) (pre .1 .framed .short) (elements-known (args .k) (args .f) (pre .0)) (omega (arith, pre .1 .few, c .before .before .before .before .if1 .taken)))
+    (run-notable (args .m .now) (args .f) (at .at) (end .result) (to .runs) Piece (at .rows) (pre .1 .framed .short) (elements-known (args .k) (args .f) (pre .0)) (omega (arith, pre .1 .few, c .before .before .before .before .before .if1 .taken)))
 
 add-rows : tie.Need-add-rows Inv-loop μ-loop
 add-rows c = search needs
 
 shared-slice-read-b : tie.Need-shared-slice-read-b Inv-loop μ-loop
 shared-slice-read-b c =
-    let to = c .before .before .before .before .before .before .before .element-end .ensures (omega (arith, c .before .before .before .before .before .before .if2 .left)) in
+    let to = c .before .before .element-end .ensures (omega (arith, c .before .if2 .left)) in
     let inside = to .runs .inside in
     search needs
 
@@ -79,8 +79,8 @@ returns-2 c =
     let at = c .before .before .before .before .before .before .before .before .before .before .before .loop in
     let end = c .before .before .before .before .before .before .before .before .element-end in
     let to = end .ensures (omega (arith, c .before .before .before .before .before .before .before .if2 .left)) in
-    let noted = c .before .before .before .before .note in
-    let row = c .before .before .before .before .before .standing-at in
+    let noted = c .before .before .before .note in
+    let row = c .before .before .before .before .standing-at in
     λ some. sweeping-last (args .m .now) (pre .1 .framed) (args .w .from) (args .k) (args .f) (args .start) (args .before) (pre .0) (at .notes) (noted .last .0) (at .at) (at .rows) (end .result) (at .inv .1) to (row .result) (row .ensures) (noted .ensures) (c .if3 .taken)
 
 given-up-requires-2 : tie.Need-given-up-requires-2 Inv-loop μ-loop
@@ -105,8 +105,8 @@ loop-less c =
     let at = c .before .before .before .before .before .before .before .before .before .before .before .before .loop in
     let end = c .before .before .before .before .before .before .before .before .before .element-end in
     let to = end .ensures (omega (arith, c .before .before .before .before .before .before .before .before .if2 .left)) in
-    let noted = c .before .before .before .before .before .note in
-    let row = c .before .before .before .before .before .before .standing-at in
+    let noted = c .before .before .before .before .note in
+    let row = c .before .before .before .before .before .standing-at in
     let runs = to .runs .runs in
     let inside = to .runs .inside in
     search needs
@@ -118,8 +118,8 @@ loop-again c =
     let at = c .before .before .before .before .before .before .before .before .before .before .before .before .loop in
     let end = c .before .before .before .before .before .before .before .before .before .element-end in
     let to = end .ensures (omega (arith, c .before .before .before .before .before .before .before .before .if2 .left)) in
-    let noted = c .before .before .before .before .before .note in
-    let row = c .before .before .before .before .before .before .standing-at in
+    let noted = c .before .before .before .before .note in
+    let row = c .before .before .before .before .before .standing-at in
     (search needs, sweeping-on (args .m .now) (pre .1 .framed) (args .w .from) (args .k) (args .f) (args .start) (args .before) (pre .0) (at .notes) (noted .last .0) (at .at) (at .rows) (end .result) (at .inv .1) to (row .result) (row .ensures) (noted .ensures) (c .if4 .left))
 
 given-up-requires-3 : tie.Need-given-up-requires-3 Inv-loop μ-loop
@@ -142,11 +142,11 @@ sweep-pieces-spec =
     given-up-requires
     same-length
     returns
+    shared-slice-read-b
     sub-standing-at
     standing-at-requires
     note-requires
     add-rows
-    shared-slice-read-b
     add-t21
     same-length-2
     returns-2

@@ -35,7 +35,7 @@ returns-2 : tie.Need-returns-2
 returns-2 c =
     let args = c .before .before .before .before .args in
     let fit = is-digit (getD (args .m .now) (args .at + 1) 0) (c .before .if1 .left) in
-    λ known. indicates (args .m .now) (args .at) 0 _ (c .before .before .before .before .pre) (c .if2 .taken) (omega arith) (fit .0) (fit .1) (omega arith)
+    λ known. indicates (args .m .now) (c .before .before .before .before .pre .0) (args .at) 0 _ (c .before .before .before .before .pre .1) (c .if2 .taken) (omega arith) (fit .0) (fit .1) (omega arith)
 
 add-result : tie.Need-add-result
 add-result c =
@@ -47,7 +47,7 @@ returns-3 : tie.Need-returns-3
 returns-3 c =
     let args = c .before .before .before .before .before .args in
     let fit = is-digit (getD (args .m .now) (args .at + 1) 0) (c .before .before .if1 .left) in
-    λ known. indicates (args .m .now) (args .at) 1 _ (c .before .before .before .before .before .pre) (c .if3 .taken) (omega arith) (fit .0) (fit .1) (omega arith)
+    λ known. indicates (args .m .now) (c .before .before .before .before .before .pre .0) (args .at) 1 _ (c .before .before .before .before .before .pre .1) (c .if3 .taken) (omega arith) (fit .0) (fit .1) (omega arith)
 
 returns-4 : tie.Need-returns-4
 returns-4 c = λ known. absurd (omega arith)

@@ -3,7 +3,6 @@ use Prim.Native.Nat.{_-_}
 use mathlib.Core.Path.{_≡_, refl}
 use native.Mathlib.Omega.{arith}
 use borrow.Author.Needs.{needs}
-use borrow.Author.Tests.{not-false}
 use lib.ListN.{length}
 use Rattle.sweeps.proofs.Going.{Going, going-first, going-on, further-on, ended-so, nothing-said}
 use Rattle.reader.proofs.quick.message.sweep.Statement.{statement}
@@ -15,21 +14,15 @@ Inv-loop edition m w notes₀ most at₀ envelopes₀ rows₀ notes at envelopes
 abbrev μ-loop : tie.MeasureT-loop
 μ-loop edition m w notes₀ most at₀ envelopes₀ rows₀ notes at envelopes rows = length m - at
 
-framed-requires : tie.Need-framed-requires Inv-loop μ-loop
-framed-requires c κs = search needs
-
-returns : tie.Need-returns Inv-loop μ-loop
-returns c = tt
-
 loop-holds : tie.Need-loop-holds Inv-loop μ-loop
 loop-holds c =
-    let args = c .before .before .before .before .args in
-    (refl, going-first (args .edition) (args .m .now) (args .w .from) (args .notes .now) (c .before .framed .ensures (not-false _ (c .if1 .left))))
+    let args = c .before .before .args in
+    (refl, going-first (args .edition) (args .m .now) (args .w .from) (args .notes .now) (c .before .before .pre .1))
 
 sweep-envelope-requires : tie.Need-sweep-envelope-requires Inv-loop μ-loop
 sweep-envelope-requires c κs =
     let going = c .before .loop .inv .1 in
-    record { framed = going .headed .framed; inside = going .inside; few = c .before .before .before .before .before .before .pre; noted = going .noted }
+    (record { framed = going .headed .framed; inside = omega (arith, going .inside); few = c .before .before .before .before .pre .0; noted = going .noted }, going .inside)
 
 not-swept-requires : tie.Need-not-swept-requires Inv-loop μ-loop
 not-swept-requires c κs = search needs
@@ -37,46 +30,46 @@ not-swept-requires c κs = search needs
 same-length : tie.Need-same-length Inv-loop μ-loop
 same-length c = search needs
 
-returns-2 : tie.Need-returns-2 Inv-loop μ-loop
-returns-2 c = nothing-said (c .before .before .before .before .before .before .before .before .before .before .before .args .edition) (c .before .before .before .before .before .before .before .before .before .before .before .args .m .now) (c .before .before .before .before .before .before .before .before .before .before .before .args .w) (c .before .before .before .before .sweep-envelope .last .1 .1 .1 .1 .1 .0) (c .not-swept .result) (c .not-swept .ensures)
+returns : tie.Need-returns Inv-loop μ-loop
+returns c = nothing-said (c .before .before .before .before .before .before .before .before .before .args .edition) (c .before .before .before .before .before .before .before .before .before .args .m .now) (c .before .before .before .before .before .before .before .before .before .args .w) (c .before .before .before .before .sweep-envelope .last .1 .1 .1 .1 .1 .0) (c .not-swept .result) (c .not-swept .ensures)
 
 add-envelopes : tie.Need-add-envelopes Inv-loop μ-loop
 add-envelopes c = search needs
 
-shared-slice-read-if3 : tie.Need-shared-slice-read-if3 Inv-loop μ-loop
-shared-slice-read-if3 c = c .before .before .before .before .sweep-envelope .ensures (omega (arith, c .before .if2 .left)) .inside
+shared-slice-read-if2 : tie.Need-shared-slice-read-if2 Inv-loop μ-loop
+shared-slice-read-if2 c = c .before .before .before .before .sweep-envelope .ensures (omega (arith, c .before .if1 .left)) .inside
 
 ended-requires : tie.Need-ended-requires Inv-loop μ-loop
-ended-requires c κs = c .before .before .before .before .before .sweep-envelope .ensures (omega (arith, c .before .before .if2 .left)) .inside
+ended-requires c κs = c .before .before .before .before .before .sweep-envelope .ensures (omega (arith, c .before .before .if1 .left)) .inside
 
 same-length-2 : tie.Need-same-length-2 Inv-loop μ-loop
 same-length-2 c = search needs
 
-returns-3 : tie.Need-returns-3 Inv-loop μ-loop
-returns-3 c =
-    let args = c .before .before .before .before .before .before .before .before .before .before .before .before .before .args in
+returns-2 : tie.Need-returns-2 Inv-loop μ-loop
+returns-2 c =
+    let args = c .before .before .before .before .before .before .before .before .before .before .before .args in
     let at = c .before .before .before .before .before .before .before .before .loop in
     let envelope = c .before .before .before .before .before .before .sweep-envelope in
-    let swept = envelope .ensures (omega (arith, c .before .before .before .if2 .left)) in
-    ended-so (args .edition) (args .m .now) (args .w .from) (at .notes) (at .at) (at .envelopes) (at .rows) (at .inv .1) (envelope .result) (envelope .last .1 .1 .1 .1 .1 .0) swept (c .before .if3 .taken) (args .w .most) (c .before .before .before .before .before .before .before .before .before .before .before .before .before .pre) (c .ended .result) (c .ended .ensures)
+    let swept = envelope .ensures (omega (arith, c .before .before .before .if1 .left)) in
+    ended-so (args .edition) (args .m .now) (args .w .from) (at .notes) (at .at) (at .envelopes) (at .rows) (at .inv .1) (envelope .result) (envelope .last .1 .1 .1 .1 .1 .0) swept (c .before .if2 .taken) (args .w .most) (c .before .before .before .before .before .before .before .before .before .before .before .pre .0) (c .ended .result) (c .ended .ensures)
 
 loop-less : tie.Need-loop-less Inv-loop μ-loop
 loop-less c =
-    let args = c .before .before .before .before .before .before .before .before .before .before .before .before .args in
+    let args = c .before .before .before .before .before .before .before .before .before .before .args in
     let at = c .before .before .before .before .before .before .before .loop in
     let envelope = c .before .before .before .before .before .sweep-envelope in
-    let swept = envelope .ensures (omega (arith, c .before .before .if2 .left)) in
-    let later = further-on (args .edition) (args .m .now) (args .w .from) (at .notes) (at .at) (at .envelopes) (at .rows) (at .inv .1) (envelope .result) (envelope .last .1 .1 .1 .1 .1 .0) swept (c .if3 .left) in
+    let swept = envelope .ensures (omega (arith, c .before .before .if1 .left)) in
+    let later = further-on (args .edition) (args .m .now) (args .w .from) (at .notes) (at .at) (at .envelopes) (at .rows) (at .inv .1) (envelope .result) (envelope .last .1 .1 .1 .1 .1 .0) swept (c .if2 .left) in
     let inside = swept .inside in
     search needs
 
 loop-again : tie.Need-loop-again Inv-loop μ-loop
 loop-again c =
-    let args = c .before .before .before .before .before .before .before .before .before .before .before .before .args in
+    let args = c .before .before .before .before .before .before .before .before .before .before .args in
     let at = c .before .before .before .before .before .before .before .loop in
     let envelope = c .before .before .before .before .before .sweep-envelope in
-    let swept = envelope .ensures (omega (arith, c .before .before .if2 .left)) in
-    (search needs, going-on (args .edition) (args .m .now) (args .w .from) (at .notes) (at .at) (at .envelopes) (at .rows) (at .inv .1) (envelope .result) (envelope .last .1 .1 .1 .1 .1 .0) swept (c .if3 .left))
+    let swept = envelope .ensures (omega (arith, c .before .before .if1 .left)) in
+    (search needs, going-on (args .edition) (args .m .now) (args .w .from) (at .notes) (at .at) (at .envelopes) (at .rows) (at .inv .1) (envelope .result) (envelope .last .1 .1 .1 .1 .1 .0) swept (c .if2 .left))
 
 pub sweep-spec : {M : Type 1} → statement M
 sweep-spec =
@@ -84,17 +77,15 @@ sweep-spec =
     (tie.spec
     Inv-loop
     μ-loop
-    framed-requires
-    returns
     loop-holds
     sweep-envelope-requires
     not-swept-requires
     same-length
-    returns-2
+    returns
     add-envelopes
-    shared-slice-read-if3
+    shared-slice-read-if2
     ended-requires
     same-length-2
-    returns-3
+    returns-2
     loop-less
     loop-again)

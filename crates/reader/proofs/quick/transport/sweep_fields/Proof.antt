@@ -43,7 +43,7 @@ returns c = λ some. absurd (omega (arith, c .given-up .ensures))
 
 sub-size : tie.Need-sub-size Inv-loop μ-loop
 sub-size c =
-    let to = c .before .field-end .ensures (omega (arith, c .if2 .left)) in
+    let to = c .before .before .field-end .ensures (omega (arith, c .before .if2 .left)) in
     let runs = to .runs .runs in
     search needs
 
@@ -52,20 +52,20 @@ standing-at-requires c κs = search needs
 
 note-requires : tie.Need-note-requires Inv-loop μ-loop
 note-requires c κs =
-    let args = c .before .before .before .before .before .before .before .before .before .args in
-    let pre = c .before .before .before .before .before .before .before .before .before .pre in
-    let at = c .before .before .before .before .before .before .loop in
-    let end = c .before .before .before .field-end in
-    let to = end .ensures (omega (arith, c .before .before .if2 .left)) in
+    let args = c .before .before .before .before .before .before .before .before .before .before .args in
+    let pre = c .before .before .before .before .before .before .before .before .before .before .pre in
+    let at = c .before .before .before .before .before .before .before .loop in
+    let end = c .before .before .before .before .field-end in
+    let to = end .ensures (omega (arith, c .before .before .before .if2 .left)) in
     subst (λ (row : Cursor). Notable (at .rows) row) (sym (c .standing-at .ensures))
-    (run-notable (args .m .now) 1 (at .at) (end .result) (to .runs) Piece (at .rows) (pre .1 .framed .short) (omega arith) (omega (arith, pre .1 .few, c .before .before .before .before .if1 .taken)))
+    (run-notable (args .m .now) 1 (at .at) (end .result) (to .runs) Piece (at .rows) (pre .1 .framed .short) (omega arith) (omega (arith, pre .1 .few, c .before .before .before .before .before .if1 .taken)))
 
 add-rows : tie.Need-add-rows Inv-loop μ-loop
 add-rows c = search needs
 
 shared-slice-read-b : tie.Need-shared-slice-read-b Inv-loop μ-loop
 shared-slice-read-b c =
-    let to = c .before .before .before .before .before .before .before .field-end .ensures (omega (arith, c .before .before .before .before .before .before .if2 .left)) in
+    let to = c .before .before .field-end .ensures (omega (arith, c .before .if2 .left)) in
     let inside = to .runs .inside in
     search needs
 
@@ -93,8 +93,8 @@ returns-2 c =
     let at = c .before .before .before .before .before .before .before .before .before .before .before .before .loop in
     let end = c .before .before .before .before .before .before .before .before .before .field-end in
     let to = end .ensures (omega (arith, c .before .before .before .before .before .before .before .before .if2 .left)) in
-    let noted = c .before .before .before .before .before .note in
-    let row = c .before .before .before .before .before .before .standing-at in
+    let noted = c .before .before .before .before .note in
+    let row = c .before .before .before .before .before .standing-at in
     λ some.
     let right = c .behind-last .ensures some in
     fields-last (args .m .now) (pre .1 .framed) (args .w .from) (args .k) (args .limit) (args .start) (args .before) (at .notes) (noted .last .0) (at .at) (at .rows) (end .result) (at .inv .1) to (row .result) (row .ensures) (noted .ensures) (c .before .if3 .taken) (c .behind-last .result) (right .0) (right .1)
@@ -128,8 +128,8 @@ loop-again c =
     let at = c .before .before .before .before .before .before .before .before .before .before .before .before .loop in
     let end = c .before .before .before .before .before .before .before .before .before .field-end in
     let to = end .ensures (omega (arith, c .before .before .before .before .before .before .before .before .if2 .left)) in
-    let noted = c .before .before .before .before .before .note in
-    let row = c .before .before .before .before .before .before .standing-at in
+    let noted = c .before .before .before .before .note in
+    let row = c .before .before .before .before .before .standing-at in
     (search needs, fields-on (args .m .now) (pre .1 .framed) (args .w .from) (args .k) (args .limit) (args .start) (args .before) (at .notes) (noted .last .0) (at .at) (at .rows) (end .result) (at .inv .1) to (row .result) (row .ensures) (noted .ensures) (c .if4 .left))
 
 given-up-requires-3 : tie.Need-given-up-requires-3 Inv-loop μ-loop
@@ -153,11 +153,11 @@ sweep-fields-spec =
     given-up-requires
     same-length
     returns
+    shared-slice-read-b
     sub-size
     standing-at-requires
     note-requires
     add-rows
-    shared-slice-read-b
     sub-behind-last
     add-behind-last
     behind-last-requires
