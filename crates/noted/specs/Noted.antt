@@ -28,7 +28,7 @@ rowsNoted (k ∷ (f ∷ (s ∷ (l ∷ ns)))) = record { kind = k; format = f; st
 abbrev pub ordinalsNoted : ℕ → List Row → List ℕ
 ordinalsNoted envelopes rs = cond (ltb 1 envelopes) (byCounting (kindsOf rs)) (map (λ (r : Row). 0) rs)
 
--- rows of several envelopes are counted, and only so many as a message may have
+-- too many rows to be counted: those of several envelopes, more than a message may have
 abbrev pub tooMany : ℕ → List Row → Bool
 tooMany envelopes rs = ltb 1 envelopes && ltb mostRows (length rs)
 
