@@ -56,7 +56,8 @@ pub fn judge(edition: Edition, m: &[u8]) -> Reading
     }
     if !tallies::is_headed(m) {
         let header = HEADER;
-        return refusal(Reason::NoMessageHeader, tallies::agree(m, 0, &header));
+        let agreed = tallies::agree(m, 0, &header);
+        return refusal(Reason::NoMessageHeader, agreed);
     }
     within_rows(envelopes::walk_envelopes(edition, m))
 }
