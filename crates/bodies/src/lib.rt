@@ -1,5 +1,7 @@
 // Whether a body keeps its format's rules (01, Envelope rules and Transport fields), and how many rows it has. A body is the stretch
 // before an RS whose bytes are permitted; the functions take every stretch. What is asked of one of its pieces is said in `pieces`.
+#![tactic(auto)]
+
 ghost use Rattle.std.specs.Prelude.{◌≡◌};
 ghost use Rattle.label.specs.Pieces.{pieces, last_is_empty};
 ghost use Rattle.leaves.specs.Classes.{class_of};

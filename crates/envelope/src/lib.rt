@@ -1,4 +1,6 @@
 // What is found where an envelope is due, at an offset of a message: its indicator, header and body are judged, its rows counted.
+#![tactic(auto)]
+
 mod body;
 mod format;
 mod header;
@@ -14,7 +16,7 @@ use pieces::Kind;
 
 // What is found where an envelope is due: an envelope with the offset behind its RS and its rows, one that takes all the rest with its
 // rows, why there is none, or why one of its fields or elements is refused and where that starts. `shown` of specs/Shown has what each says.
-#[derive(Drop)]
+#[derive(Clone, Copy)]
 pub enum Found {
     Closed(usize, usize),
     Whole(usize),

@@ -1,5 +1,7 @@
 // Which fault a body has that breaks its format's rules, and where in it (02, No. 1). It is asked only of a body whose rules don't hold, so
 // that a good label pays nothing for it; the functions take every stretch.
+#![tactic(auto)]
+
 ghost use Rattle.std.specs.Prelude.{◌≡◌};
 ghost use Rattle.label.specs.Bytes.{GS};
 ghost use Rattle.label.specs.Pieces.{pieces};

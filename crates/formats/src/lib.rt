@@ -1,4 +1,6 @@
 // The table of formats in code: which shape a number has in an edition. Judge, walk, quick path and writer go by the shape.
+#![tactic(auto)]
+
 ghost use Rattle.std.specs.Prelude.{◌≡◌};
 ghost use Rattle.label.specs.Formats.{added, widest, rule_in, rule_of};
 ghost use Rattle.formats.specs.Shapes.{rule_for};
@@ -6,7 +8,7 @@ ghost use Rattle.formats.specs.Shapes.{rule_for};
 use label::Edition;
 
 // What a format's body is made of, with what tells formats of one rule apart; `rule_for` of specs/Shapes has each shape's rule.
-#[derive(Drop)]
+#[derive(Clone, Copy)]
 pub enum Shape {
     Fields,
     Rest,

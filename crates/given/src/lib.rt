@@ -1,4 +1,6 @@
 // The rows that the writer is given: whether they stand, whether their ordinals are true, one of them, and whether a cursor's row is like one.
+#![tactic(auto)]
+
 ghost use Rattle.std.specs.Prelude.{◌≡◌, ◌+◌, ◌≤◌, ◌<◌, length, get_or};
 ghost use Rattle.label.specs.Bytes.{every};
 ghost use Rattle.label.specs.Limits.{row_width};
@@ -11,7 +13,7 @@ use label::{MOST_ROWS, ROW};
 use walk::Cursor;
 
 // A row's numbers but its ordinal.
-#[derive(Drop)]
+#[derive(Clone, Copy)]
 pub struct Given {
     pub kind: u32,
     pub format: u32,

@@ -1,4 +1,6 @@
 // The first pass over a message: each envelope is judged from the left, envelopes and rows are counted, and nothing is written.
+#![tactic(auto)]
+
 mod envelopes;
 
 ghost use Rattle.std.specs.Prelude.{◌≡◌};
@@ -8,7 +10,7 @@ ghost use Rattle.judge.specs.Shown.{judged_as, limited};
 use label::{Edition, HEADER, LONGEST, MOST_ROWS, Reading, Reason, Refusal};
 
 // Where the walk stands: the offset at which an envelope is due, whether it is the first, and what was counted so far.
-#[derive(Drop)]
+#[derive(Clone, Copy)]
 pub struct State {
     pub at: usize,
     pub first: bool,
@@ -17,7 +19,7 @@ pub struct State {
 }
 
 // The message's reading, or where the walk goes on.
-#[derive(Drop)]
+#[derive(Clone, Copy)]
 pub enum Turn {
     Done(Reading),
     Go(State),

@@ -1,5 +1,6 @@
 // The types and constants that every other crate shares, in the forms that document 01 names under 'What to write where'.
 // What a message is, how it is read and what is answered stands in specs/.
+#![tactic(auto)]
 
 // The most bytes and the most rows in a message, how many numbers a row is, and the length of a table with room for the most rows
 // (01, Rows; 02, No. 9).
@@ -12,7 +13,7 @@ pub const ROW: usize = 5;
 pub const TABLE: usize = ROW * MOST_ROWS;
 
 // Which edition of the standard a message is read or written in: the caller picks it (02, No. 3). `formats` of specs/Formats has each one's.
-#[derive(Drop)]
+#[derive(Clone, Copy)]
 pub enum Edition {
     Edition2005,
     Edition2025,
@@ -47,7 +48,7 @@ pub const MOST_FIELDS_96: usize = 14;
 
 // Why a message is refused: 'Numbers for the receiving desk', in its order, and then the faults of transport fields (02, No. 1). `number`
 // of specs/Answer has each one's number.
-#[derive(Drop)]
+#[derive(Clone, Copy)]
 pub enum Reason {
     TooLong,
     NoMessageHeader,
@@ -70,7 +71,7 @@ pub enum Reason {
 }
 
 // What is wrong with one piece of a body, a field or an element: why it is refused, or nothing (02, No. 1).
-#[derive(Drop)]
+#[derive(Clone, Copy)]
 pub enum PieceFault {
     Faulty(Reason),
     Faultless,
@@ -78,42 +79,42 @@ pub enum PieceFault {
 
 // What is wrong with a body that breaks its format's rules: why one of its pieces is refused and where in the body that starts; or no piece
 // by itself, so that the body is refused as a whole (02, No. 1).
-#[derive(Drop)]
+#[derive(Clone, Copy)]
 pub enum BodyFault {
     InPiece(Reason, usize),
     OfWhole,
 }
 
 // A refusal holds its reason and its place, an offset in the message.
-#[derive(Drop)]
+#[derive(Clone, Copy)]
 pub struct Refusal {
     pub reason: Reason,
     pub place: usize,
 }
 
 // A stretch of a message.
-#[derive(Drop)]
+#[derive(Clone, Copy)]
 pub struct Stretch {
     pub start: usize,
     pub length: usize,
 }
 
 // How many envelopes and rows an accepted message has.
-#[derive(Drop)]
+#[derive(Clone, Copy)]
 pub struct Counts {
     pub envelopes: usize,
     pub rows: usize,
 }
 
 // What a reading answers. `answer_of` of specs/Answer has the paper's number and values for each case.
-#[derive(Drop)]
+#[derive(Clone, Copy)]
 pub enum Reading {
     Accepted(Counts),
     Refused(Refusal),
 }
 
 // Why rows are not written (paragraph Writer). `write_number` of specs/Writing has each one's number.
-#[derive(Drop)]
+#[derive(Clone, Copy)]
 pub enum WriteReason {
     BadRows,
     NoSuchMessage,
@@ -121,12 +122,12 @@ pub enum WriteReason {
 }
 
 // What the writer answers: the byte count, or why not. `write_answer_of` of specs/Writing has the paper's number and values.
-#[derive(Drop)]
+#[derive(Clone, Copy)]
 pub enum Writing {
     Written(usize),
     Declined(WriteReason),
 }
 
 // The least and the greatest length of a transport field. In a byte each, since `limits` lays its table out anew at each call.
-#[derive(Drop)]
+#[derive(Clone, Copy)]
 pub struct Limit(pub u8, pub u8);

@@ -1,4 +1,6 @@
 // What is asked of a stretch of bytes: whether all are of a class, and where a byte is. Every function takes every input.
+#![tactic(auto)]
+
 ghost use Rattle.std.specs.Prelude.{◌≡◌, not, ◌+◌, ◌-◌, eqb, drop};
 ghost use Rattle.label.specs.Bytes.{every};
 ghost use Rattle.leaves.specs.Classes.{class_of};
@@ -16,7 +18,7 @@ pub const RS: u8 = 0x1E;
 pub const US: u8 = 0x1F;
 
 // A class of bytes; `class_of` of specs/Classes has each one's definition.
-#[derive(Drop)]
+#[derive(Clone, Copy)]
 pub enum Class {
     Plain,
     Digit,

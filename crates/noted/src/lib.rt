@@ -1,5 +1,7 @@
 // Rows that are noted, in numbers of 16 bits. They are handed over to a lent table, or one of them is taken for the stretch that it names.
 // What rows they are is no matter here; `reader` notes those of a message.
+#![tactic(auto)]
+
 ghost use Rattle.std.specs.Prelude.{◌≡◌, ◌++◌, map, ◌+◌, ◌≤◌, take, drop};
 ghost use Rattle.label.specs.Limits.{most_rows, row_width};
 ghost use Rattle.label.specs.Layout.{Row, numbers, all_numbers};

@@ -1,5 +1,7 @@
 // The paper's number of a reason. Types and definitions are `label`'s; these functions stand apart, so that no edit of a definition is
 // tried with their proofs.
+#![tactic(auto)]
+
 ghost use Rattle.std.specs.Prelude.{◌≡◌};
 ghost use Rattle.label.specs.Answer.{number};
 ghost use Rattle.label.specs.Writing.{write_number};

@@ -1,5 +1,7 @@
 // What is asked of one piece of a body that runs to an RS: of a transport field, a segment or an element (01, Envelope rules and Transport
 // fields). That the whole body keeps its rules is said in `bodies`.
+#![tactic(auto)]
+
 mod elements;
 mod fields;
 mod segments;
@@ -8,7 +10,7 @@ ghost use Rattle.std.specs.Prelude.{◌≡◌};
 ghost use Rattle.pieces.specs.PieceTests.{piece_test};
 
 // A body that runs to an RS, by its format, and for 01 its version.
-#[derive(Drop)]
+#[derive(Clone, Copy)]
 pub enum Kind {
     Fields02,
     Fields96,

@@ -1,5 +1,7 @@
 // Prints the reading of the message on standard input, as document 01 has it under 'Cartons to try', in the edition of 2005
 // (02, No. 3). One byte more than a message may have is enough to see that it is too long.
+#![tactic(auto)]
+
 use label::{Edition, LONGEST, TABLE};
 use libc::STDIN_FILENO;
 

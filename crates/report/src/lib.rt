@@ -1,4 +1,6 @@
 // A reading printed as document 01 has it under 'Cartons to try', and what the writer answers.
+#![tactic(auto)]
+
 ghost use Rattle.std.specs.Prelude.{◌≡◌, ◌+◌, min, length, set};
 ghost use Rattle.io.specs.Counts.{IsPrefixLen};
 

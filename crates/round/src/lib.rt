@@ -1,4 +1,6 @@
 // Reading and writing in a circle: what is read of a good message writes that message.
+#![tactic(auto)]
+
 ghost use Rattle.std.specs.Prelude.{◌*◌, ◌≤◌, ◌≡◌, length};
 ghost use Rattle.label.specs.Limits.{most_rows, row_width};
 ghost use Rattle.label.specs.ReadMessage.{reading};

@@ -1,5 +1,7 @@
 // The one walk over the rows of a good message: to its first row, and from a row to the one behind it. Nothing is tested again: `first` and
 // `next` take every input, and on a message that is read they go over exactly its rows (`walked` of walk's proofs/Promises).
+#![tactic(auto)]
+
 ghost use Rattle.std.specs.Prelude.{◌-◌, ◌≡◌, drop, get_or};
 ghost use Rattle.label.specs.Formats.{widest, rule_of};
 ghost use Rattle.walk.specs.Cursors.{ahead, plain_run, plain_row, indicator_at, text_row, rest_row, opening, after_piece, after_segment, after_sub_element, first_cursor, next_cursor};

@@ -1,4 +1,6 @@
 // How many rows are read in a message, and where a row's part lies, by the exact reader's passes: judge, then walk.
+#![tactic(auto)]
+
 ghost use Rattle.std.specs.Prelude.{◌≡◌, length};
 ghost use Rattle.label.specs.ReadMessage.{reading};
 ghost use Rattle.label.specs.Answer.{rows_read};

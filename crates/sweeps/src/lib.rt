@@ -1,26 +1,28 @@
 // What the quick path keeps while it sweeps a message: which rows are wanted, how far it is, and what it says of the message. The definitions are
 // in specs/Quick and its neighbours, the laws in proofs; the code that sweeps is `reader`'s. They stand apart so that no edit of that code is
 // tried with their proofs.
+#![tactic(auto)]
+
 use label::Counts;
 use leaves::Class;
 use walk::Stage;
 
 // Which rows are noted, those from a number on as far as the notes reach; and how many rows are gone over at most.
-#[derive(Drop)]
+#[derive(Clone, Copy)]
 pub struct Wanted {
     pub from: usize,
     pub most: usize,
 }
 
 // Where the sweep goes on, 0 where it leaves the message; and the rows gone over so far.
-#[derive(Drop)]
+#[derive(Clone, Copy)]
 pub struct Passed {
     pub next: usize,
     pub rows: usize,
 }
 
 // What a header value of 09 or 15 has to be: its format and the stage of its row, its bytes' class, its least and its greatest length.
-#[derive(Drop)]
+#[derive(Clone, Copy)]
 pub struct Value {
     pub format: u32,
     pub stage: Stage,
@@ -30,7 +32,7 @@ pub struct Value {
 }
 
 // A good message with its counts, one with more rows than were asked for, or one that is left.
-#[derive(Drop)]
+#[derive(Clone, Copy)]
 pub enum Swept {
     Good(Counts),
     Full,

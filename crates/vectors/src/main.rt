@@ -1,6 +1,8 @@
 // Runs the vectors of data/ in each edition: messages that are read (vectors.txt, formats.txt), rows that are written (writing.txt), and
 // parts that are handed back (parts.txt). Prints each vector's name and what comes of it. The head of a file says how its vectors are
 // written.
+#![tactic(auto)]
+
 mod notation;
 mod numbers;
 mod reading;
@@ -13,7 +15,7 @@ use libc::STDOUT_FILENO;
 use split::first;
 
 // What the vectors of a file try.
-#[derive(Drop)]
+#[derive(Clone, Copy)]
 enum Trial {
     Read,
     Write,

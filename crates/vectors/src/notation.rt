@@ -5,7 +5,7 @@ ghost use Rattle.io.specs.Counts.{IsPrefixLen};
 
 // What has been read of the braces that are open, if any are: a count so far; a count; a count and a byte; a count and a
 // control byte's first letter.
-#[derive(Drop)]
+#[derive(Clone, Copy)]
 enum Pen {
     Outside,
     Opened(usize),
@@ -15,7 +15,7 @@ enum Pen {
 }
 
 // A byte, and how many times it is to be written.
-#[derive(Drop)]
+#[derive(Clone, Copy)]
 struct Run {
     times: usize,
     byte: u8,

@@ -1,6 +1,8 @@
 // What the walk over the rows of a good message stands at: a cursor by value holds a row's format, start and length, and its stage, which
 // tells the row's kind and where the next row is. Where it goes is specs/Cursors, and that on a message that is read it goes over exactly its
 // rows is `walked` of proofs/Promises; `steps` goes.
+#![tactic(auto)]
+
 ghost use Rattle.std.specs.Prelude.{◌≡◌, drop};
 ghost use Rattle.walk.specs.Cursors.{count_from, kind_of, standing};
 
@@ -10,7 +12,7 @@ use leaves::Class;
 // What a row is: the indicator; a header value (the version of 01, the six bytes of 03 and 04, type, compression and count
 // of 09 and 15); a field or an element of 01, 05, 06 or 12; a tag, the first sub-element of a later element, or a further one; a body.
 // `kind_of` of specs/Cursors has each one's kind.
-#[derive(Drop)]
+#[derive(Clone, Copy)]
 pub enum Stage {
     Indicator,
     VersionValue,
@@ -26,7 +28,7 @@ pub enum Stage {
 }
 
 // Where the walk stands: at a row, with all that is to be told of it.
-#[derive(Drop)]
+#[derive(Clone, Copy)]
 pub struct Cursor {
     pub stage: Stage,
     pub format: u32,

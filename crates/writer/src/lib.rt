@@ -1,5 +1,7 @@
 // Writing rows: they are laid out in local memory as the one message that they can have, that message is read back and
 // compared with them, and only then is it copied into the lent output (01, Numbers for the receiving desk, paragraph Writer).
+#![tactic(auto)]
+
 mod laying;
 mod marks;
 

@@ -11,7 +11,7 @@ use label::{HEADER, HEADER_LENGTH};
 use leaves::{EOT, FS, GS, RS, US};
 
 // Some marks: as many of the bytes as count says. `marks_of` of specs/Marks has them.
-#[derive(Drop)]
+#[derive(Clone, Copy)]
 pub struct Marks {
     pub bytes: [u8; HEADER_LENGTH],
     pub count: usize,

@@ -1,5 +1,7 @@
 // The library for other programs: reading, writing and parts, with answers as structs of numbers. `rt staticlib zielorad` makes
 // the archive; zielorad.h tells C and C++ of it. Each function is thin over the proved one and has the same equations.
+#![tactic(auto)]
+
 ghost use Rattle.std.specs.Prelude.{◌≡◌};
 ghost use Rattle.label.specs.Answer.{table_after};
 ghost use Rattle.label.specs.Writing.{output_after};
@@ -9,7 +11,7 @@ use label::{Edition, Reading, Writing};
 
 // What reading answers: number 0 is acceptance, with the counts; any other a refusal, with its place.
 #[repr(C)]
-#[derive(Drop)]
+#[derive(Clone, Copy)]
 pub struct ZieloradReading {
     pub number: u32,
     pub place: u32,
@@ -19,7 +21,7 @@ pub struct ZieloradReading {
 
 // What writing answers: number 0 and the byte count, or a refusal.
 #[repr(C)]
-#[derive(Drop)]
+#[derive(Clone, Copy)]
 pub struct ZieloradWritten {
     pub number: u32,
     pub count: u32,
@@ -27,7 +29,7 @@ pub struct ZieloradWritten {
 
 // Where a row's part lies in the message.
 #[repr(C)]
-#[derive(Drop)]
+#[derive(Clone, Copy)]
 pub struct ZieloradPart {
     pub start: usize,
     pub length: usize,
