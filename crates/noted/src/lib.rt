@@ -38,7 +38,7 @@ fn copy_row(notes: &[u16], from: usize, table: &mut [u32], at: usize, ordinal: u
 // Copies the rows of one envelope, or of none; what lies behind them in the table stays as it was.
 fn copy_alone(notes: &[u16], rows: usize, table: &mut [u32])
     requires { Copies notes.now rows table.old }
-    ensures* { λ r. ⌜ table.new ≡ overlaid (all_numbers (rows_noted notes.now) (map (λ (r : Row). 0) (rows_noted notes.now))) table.old ⌝ }
+    ensures { table.new ≡ overlaid (all_numbers (rows_noted notes.now) (map (λ (r : Row). 0) (rows_noted notes.now))) table.old }
 {
     let mut i = 0;
     while i < rows {
