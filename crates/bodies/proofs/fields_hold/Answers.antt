@@ -1,0 +1,8 @@
+-- `fields_hold` makes the tests of `fields_of`.
+use mathlib.Core.Bool.{not, ◌&&◌, ◌||◌}
+use lib.Dec.{leb, ltb, eqb}
+use Rattle.bodies.proofs.fields_hold.Goals as goal
+
+pub returns : goal.returns
+returns c = λ i. leb 4 (c.tally-gs.ensures i) && ltb (c.tally-gs.ensures i) c.args.most && c.pieces_hold-all.ensures i
+    && (eqb (c.tally-gs.ensures i) 4 || not (c.last_empty-ends.ensures i))
