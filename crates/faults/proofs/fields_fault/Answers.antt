@@ -1,0 +1,35 @@
+-- `fields_fault` makes the tests of `fields_fault_of`: the number of fields, the last one, and then each.
+use mathlib.Core.Path.{sym, ap, ◌∙◌}
+use mathlib.Core.Bool.{◌&&◌, ◌||◌}
+use Prim.Native.Nat.{◌+◌}
+use lib.Dec.{ltb}
+use Rattle.label.specs.Bytes.{GS}
+use Rattle.label.specs.Fields.{least_fields}
+use Rattle.label.proofs.Tests.{cond_yes, cond_no}
+use Rattle.bodies.proofs.RuleLaws.{tally_inside}
+use borrow.Author.Rules.{rules}
+use Rattle.faults.proofs.fields_fault.Goals as goal
+
+pub overflow_add-fields : goal.overflow_add-fields
+overflow_add-fields c = let is = c.tally-fields.ensures in
+    let inside = tally_inside GS c.args.body.now in
+    search rules
+
+pub returns-then-fields-most : goal.returns-then-fields-most
+returns-then-fields-most c = let args = c.args in
+    sym (cond_yes _ _ _ (ap (λ n. ltb (n + 1) least_fields || ltb args.most (n + 1)) (sym c.tally-fields.ensures) ∙ c.if-fields-most.true))
+
+pub returns-then-fields-last_empty : goal.returns-then-fields-last_empty
+returns-then-fields-last_empty c = let args = c.args in
+    let count = sym c.tally-fields.ensures in
+    sym
+    (cond_no _ _ _ (ap (λ n. ltb (n + 1) least_fields || ltb args.most (n + 1)) count ∙ c.if-fields-most.false)
+    ∙ cond_yes _ _ _ ((λ j. ltb least_fields (count j + 1) && sym c.last_empty.ensures j) ∙ c.if-fields-last_empty.true))
+
+pub returns : goal.returns
+returns c = let args = c.args in
+    let count = sym c.tally-fields.ensures in
+    c.first_fault.ensures
+    ∙ sym
+    (cond_no _ _ _ (ap (λ n. ltb (n + 1) least_fields || ltb args.most (n + 1)) count ∙ c.if-fields-most.false)
+    ∙ cond_no _ _ _ ((λ j. ltb least_fields (count j + 1) && sym c.last_empty.ensures j) ∙ c.if-fields-last_empty.false))
