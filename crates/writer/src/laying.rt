@@ -23,7 +23,9 @@ fn put(out: &mut [u8], at: usize, new: &[u8]) -> usize
     if out.len() - at < new.len() {
         return out.len() + 1;
     }
-    at + bytes::copy(new, &mut out[at..])
+    let end = at + new.len();
+    out[at..end].copy_from_slice(new);
+    end
 }
 
 // Puts one byte.

@@ -76,5 +76,6 @@ pub fn write(edition: Edition, held: &[u8], rows: &[u32], output: &mut [u8]) -> 
     if output.len() < count {
         return Writing::Declined(WriteReason::NoOutputRoom);
     }
-    Writing::Written(bytes::copy(&candidate[..count], output))
+    output[..count].copy_from_slice(&candidate[..count]);
+    Writing::Written(count)
 }

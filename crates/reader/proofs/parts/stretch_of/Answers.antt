@@ -1,0 +1,17 @@
+-- `stretch_of` is the quick path's answer where that has one, and the exact reader's elsewhere.
+use mathlib.Core.Path.{sym, subst}
+use native.Mathlib.Omega.{arith}
+use Rattle.label.specs.declared.Stretch.{Stretch}
+use Rattle.stretches.specs.Stretches.{Lies}
+use Rattle.reader.proofs.NotedRows.{one_kept, lies_as_noted}
+use borrow.Author.Tests.{not-false}
+use Rattle.reader.proofs.parts.stretch_of.Goals as goal
+
+pub sweep-swept-requires : goal.sweep-swept-requires
+sweep-swept-requires c = (omega arith, c.framed.ensures (not-false _ c.if-not-framed.false-raw))
+
+pub returns-in-Good : goal.returns-in-Good
+returns-in-Good c = let args = c.args in
+    let sweep = c.sweep-swept in
+    let kept = one_kept args.edition args.m.now args.row 1024 sweep.new.notes sweep.result c.in-Good.counts c.in-Good.is sweep.ensures (omega arith) in
+    subst (λ (s : Stretch). Lies args.edition args.m.now args.row s.start s.length) (sym c.stretch_noted.ensures) (lies_as_noted args.edition args.m.now args.row c.in-Good.counts.rows sweep.new.notes kept)
