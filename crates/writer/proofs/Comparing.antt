@@ -10,6 +10,9 @@ use lib.ListN.{length, take, drop, length-take, length-drop}
 use lib.Seq.{take-append_seam, drop-append_seam}
 use lib.Dec.{eqb}
 use Rattle.label.specs.Bytes.{Bytes, every}
+use Rattle.label.specs.declared.Edition.{Edition}
+use Rattle.label.specs.ReadMessage.{reading}
+use Rattle.label.specs.Answer.{rows_read}
 use Rattle.label.specs.Limits.{row_width}
 use Rattle.label.specs.Formats.{widest, rule_of}
 use Rattle.label.specs.Layout.{Item, Part, mark, item, Row, rows_from, items_of}
@@ -188,3 +191,7 @@ module _ (m : Bytes) (all : List Row) (ns : List ℕ) where
 
   pub compared_last : (c : Cursor) (i : ℕ) → Compared m all ns c i → length ns ≤ i → true ≡ alike all (rows_in ns)
   compared_last c i at past = sym (λ t. alike (drop_past all (i / row_width) (omega arith) t) (rows_past ns i past t)) ∙ at.goes
+
+-- in an edition the message has as many rows as are given
+abbrev pub AsMany : Edition → Bytes → List ℕ → Type 0
+AsMany edition m ns = length (rows_read (reading edition m)) ≡ length ns / row_width

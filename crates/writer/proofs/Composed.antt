@@ -168,17 +168,16 @@ module _ (edition : Edition) (held : Bytes) (ns : List ℕ) where
               (rows_fit edition held ns (length output) (some m) stand is
               ∙ ap (λ t. cond t (declined NoOutputRoom) (written m)) (lt-ltb (length output) (length m) (omega (arith, so.0))))
 
-      pub answers_written : (r ≡ 0 → ⊥) → r ≤ length output → (n : ℕ) (out : Bytes) → n ≡ length (take r candidate)
-          → out ≡ take (length (take r candidate)) (take r candidate) ++ drop (length (take r candidate)) output → Answers output out (Written n)
-      answers_written more room n out counted is_out = by (composed edition items ordinals) refl composes
+      pub answers_written : (r ≡ 0 → ⊥) → r ≤ length output → (out : Bytes) → out ≡ take r candidate ++ drop r output → Answers output out (Written r)
+      answers_written more room out is_out = by (composed edition items ordinals) refl composes
         where
-          by : (c : Option Bytes) → composed edition items ordinals ≡ c → Composes c r candidate → Answers output out (Written n)
+          by : (c : Option Bytes) → composed edition items ordinals ≡ c → Composes c r candidate → Answers output out (Written r)
           by none is so = absurd (more so)
           by (some m) is so =
               let says = rows_fit edition held ns (length output) (some m) stand is
               ∙ ap (λ t. cond t (declined NoOutputRoom) (written m)) (le-ltb (length output) (length m) (omega (arith, so.0))) in
               record {
-                answer = ap (λ n. 0 ∷ n ∷ []) (counted ∙ ap length so.1) ∙ sym (answer_numbers edition held ns (length output) (written m) says);
-                bytes = is_out ∙ ap (λ l. take (length l) l ++ drop (length l) output) so.1 ∙ ap (λ l. l ++ drop (length m) output) (take_all (length m) m (omega arith))
+                answer = ap (λ n. 0 ∷ n ∷ []) so.0 ∙ sym (answer_numbers edition held ns (length output) (written m) says);
+                bytes = is_out ∙ ap (λ l. l ++ drop r output) so.1 ∙ ap (λ n. m ++ drop n output) so.0
                     ∙ sym (output_bytes edition held ns output (written m) says);
               }

@@ -55,18 +55,10 @@ module _ (old : Bytes) (at : ℕ) (new : Bytes) where
         over = λ outside. absurd (omega arith);
       }
 
-  -- a copy into the buffer's last part
-  pub put_copied : (part : Bytes) (r : ℕ) → at ≤ length old → length new ≤ length old - at → r ≡ length new
-      → part ≡ take (length new) new ++ drop (length new) (take (length old - at) (drop at old))
-      → Put old at new (take at old ++ (part ++ drop (length old - at) (drop at old))) (at + r)
-  put_copied part r inside room counted is =
-      let rest = length-drop at old in
-      let behind = drop_past (drop at old) (length old - at) (omega arith) in
-      subst (λ (n : ℕ). Put old at new (take at old ++ (part ++ drop (length old - at) (drop at old))) (at + n)) (sym counted)
-      (put_some _ (omega arith)
-      (ap (λ l. take at old ++ l)
-      (ap (λ l. part ++ l) behind ∙ append-nil part ∙ is
-      ∙ (λ j. take_all (length new) new (omega arith) j ++ drop (length new) (take_rest old at j)))))
+  -- a copy into a part of the buffer that is as long
+  pub put_copied : (part : Bytes) (k : ℕ) → at ≤ length old → length new ≤ length old - at → k ≡ length new → part ≡ new
+      → Put old at new (take at old ++ (part ++ drop k (drop at old))) (at + length new)
+  put_copied part k inside room counted is = put_some _ (omega arith) (λ j. take at old ++ (is j ++ drop (counted j) (drop at old)))
 
   -- what is put ends where it should
   put_ends : (out : Bytes) (r : ℕ) → Put old at new out r → r ≤ length old → r ≡ at + length new

@@ -12,42 +12,36 @@ use Rattle.formats.specs.declared.Shape.TheVariants.{Fields, Rest, Segments03, S
 use Rattle.formats.specs.Shapes.{rule_for}
 use Rattle.formats.specs.contracts.Shape as shape
 
--- the numbers of the shapes with GS before a header value: all but the segments and the count alone
-abbrev others : List ℕ
-others = 0 ∷ 1 ∷ 4 ∷ 5 ∷ 6 ∷ 7 ∷ 8 ∷ 10 ∷ []
+-- GS stands before a header value of all shapes but the segments and the count alone
+before_by : (s : Shape) → (s ≡ Segments03 → ⊥) → (s ≡ Segments04 → ⊥) → (s ≡ CountOnly → ⊥) → GS ∷ [] ≡ before_value (rule_for s)
+before_by Fields no_03 no_04 no_count = refl
+before_by Rest no_03 no_04 no_count = refl
+before_by Segments03 no_03 no_04 no_count = absurd (no_03 refl)
+before_by Segments04 no_03 no_04 no_count = absurd (no_04 refl)
+before_by Elements05 no_03 no_04 no_count = refl
+before_by Elements06 no_03 no_04 no_count = refl
+before_by Text no_03 no_04 no_count = refl
+before_by Counted no_03 no_04 no_count = refl
+before_by Elements12 no_03 no_04 no_count = refl
+before_by CountOnly no_03 no_04 no_count = absurd (no_count refl)
+before_by Unknown no_03 no_04 no_count = refl
 
-before_by : (s : Shape) → OneOf others (tag_of shape.the_type s) → GS ∷ [] ≡ before_value (rule_for s)
-before_by Fields is = refl
-before_by Rest is = refl
-before_by Segments03 is = absurd (miss others 2 tt is)
-before_by Segments04 is = absurd (miss others 3 tt is)
-before_by Elements05 is = refl
-before_by Elements06 is = refl
-before_by Text is = refl
-before_by Counted is = refl
-before_by Elements12 is = refl
-before_by CountOnly is = absurd (miss others 9 tt is)
-before_by Unknown is = refl
+pub before_others : (rule : Rule) (s : Shape) → rule_for s ≡ rule → (s ≡ Segments03 → ⊥) → (s ≡ Segments04 → ⊥) → (s ≡ CountOnly → ⊥) → GS ∷ [] ≡ before_value rule
+before_others rule s same no_03 no_04 no_count = before_by s no_03 no_04 no_count ∙ ap before_value same
 
-pub before_others : (rule : Rule) (s : Shape) → rule_for s ≡ rule → OneOf others (tag_of shape.the_type s) → GS ∷ [] ≡ before_value rule
-before_others rule s same is = before_by s is ∙ ap before_value same
+-- all shapes but the rest end alike
+ending_by : (s : Shape) (p : ℕ) → (s ≡ Rest → ⊥) → closing p ++ (EOT ∷ []) ≡ ending (rule_for s) p
+ending_by Fields p no_rest = refl
+ending_by Rest p no_rest = absurd (no_rest refl)
+ending_by Segments03 p no_rest = refl
+ending_by Segments04 p no_rest = refl
+ending_by Elements05 p no_rest = refl
+ending_by Elements06 p no_rest = refl
+ending_by Text p no_rest = refl
+ending_by Counted p no_rest = refl
+ending_by Elements12 p no_rest = refl
+ending_by CountOnly p no_rest = refl
+ending_by Unknown p no_rest = refl
 
--- the numbers of all shapes but the rest
-abbrev but_rest : List ℕ
-but_rest = 0 ∷ 2 ∷ 3 ∷ 4 ∷ 5 ∷ 6 ∷ 7 ∷ 8 ∷ 9 ∷ 10 ∷ []
-
-ending_by : (s : Shape) (p : ℕ) → OneOf but_rest (tag_of shape.the_type s) → closing p ++ (EOT ∷ []) ≡ ending (rule_for s) p
-ending_by Fields p is = refl
-ending_by Rest p is = absurd (miss but_rest 1 tt is)
-ending_by Segments03 p is = refl
-ending_by Segments04 p is = refl
-ending_by Elements05 p is = refl
-ending_by Elements06 p is = refl
-ending_by Text p is = refl
-ending_by Counted p is = refl
-ending_by Elements12 p is = refl
-ending_by CountOnly p is = refl
-ending_by Unknown p is = refl
-
-pub ending_others : (rule : Rule) (p : ℕ) (s : Shape) → rule_for s ≡ rule → OneOf but_rest (tag_of shape.the_type s) → closing p ++ (EOT ∷ []) ≡ ending rule p
-ending_others rule p s same is = ending_by s p is ∙ ap (λ r. ending r p) same
+pub ending_others : (rule : Rule) (p : ℕ) (s : Shape) → rule_for s ≡ rule → (s ≡ Rest → ⊥) → closing p ++ (EOT ∷ []) ≡ ending rule p
+ending_others rule p s same no_rest = ending_by s p no_rest ∙ ap (λ r. ending r p) same

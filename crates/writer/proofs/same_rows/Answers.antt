@@ -15,10 +15,6 @@ use Rattle.walk.proofs.Promises.{walked}
 use Rattle.writer.proofs.Comparing.{rows_counted, not_as_many, Compared, compared_first, compared_differs, compared_next, compared_last}
 use Rattle.writer.proofs.same_rows.Goals as goal
 
--- in an edition the message has as many rows as are given
-abbrev AsMany : Edition → Bytes → List ℕ → Type 0
-AsMany edition m ns = length (rows_read (reading edition m)) ≡ length ns / row_width
-
 pub returns-then-rows_of-rows : goal.returns-then-rows_of-rows
 returns-then-rows_of-rows c = let args = c.args in
     let all = rows_read (reading args.edition args.m.now) in

@@ -4,7 +4,7 @@ use lib.ListN.{length}
 use Rattle.label.specs.declared.Edition.{Edition}
 use Rattle.label.specs.ReadMessage.{reading}
 use Rattle.label.specs.Answer.{rows_read}
-use Rattle.writer.proofs.Comparing.{Compared}
+use Rattle.writer.proofs.Comparing.{AsMany, Compared}
 use Rattle.writer.proofs.same_rows.Given as goal
 
 abbrev pub invariant-loop-i : goal.invariant-loop-i

@@ -1,43 +1,28 @@
 -- `write` asks in the paper's order, 20, 21, 22, and copies last.
-use mathlib.Core.Path.{sym, ◌∙◌}
+use mathlib.Core.Path.{sym, ap, ◌∙◌}
+use mathlib.Core.List.{◌++◌}
 use native.Mathlib.Omega.{arith}
 use borrow.Author.Rules.{rules}
-use borrow.Author.Tests.{not-true, not-false}
-use lib.ListN.{length-take}
+use lib.ListN.{drop}
 use Rattle.writer.proofs.Composed.{composes_inside, answers_bad_rows, answers_none, answers_no_room, answers_written}
 use Rattle.writer.proofs.write.Goals as goal
-
--- UNCONVERTED
-slice-aggregate-copy : tie.Need-slice-aggregate-copy
-slice-aggregate-copy c =
-    let args = c.before.before.before.before.before.before.before.before.before.before.before.args in
-    let held = args.held.now in
-    let ns = args.rows.now in
-    let made = c.before.before.before.before.compose in
-    omega (arith, length-take made.result made.new.1.1.1.0, composes_inside args.edition held ns made.result made.new.1.1.1.0 made.ensures)
-
--- UNCONVERTED
-copy-requires : tie.Need-copy-requires
-copy-requires c κs =
-    let made = c.before.before.before.before.before.compose in
-    omega (arith, length-take made.result made.new.1.1.1.0, c.before.before.if3.false)
 
 pub returns-then-not-rows_stand : goal.returns-then-not-rows_stand
 returns-then-not-rows_stand c = let args = c.args in
     let held = args.held.now in
     let ns = args.rows.now in
-    let so = answers_bad_rows args.edition held ns args.output.now (sym c.rows_stand.ensures ∙ not-true c.rows_stand.result c.if-not-rows_stand.true-raw) in
+    let so = answers_bad_rows args.edition held ns args.output.now (sym c.rows_stand.ensures ∙ c.if-not-rows_stand.true) in
     record { answer = so.answer; bytes = so.bytes }
 
 pub compose-count-requires : goal.compose-count-requires
-compose-count-requires c = record { stand = sym c.rows_stand.ensures ∙ not-false c.rows_stand.result c.if-not-rows_stand.false-raw; buffer = search rules }
+compose-count-requires c = record { stand = sym c.rows_stand.ensures ∙ c.if-not-rows_stand.false; buffer = search rules }
 
 pub returns-then-count-eq0 : goal.returns-then-count-eq0
 returns-then-count-eq0 c = let args = c.args in
     let held = args.held.now in
     let ns = args.rows.now in
     let made = c.compose-count in
-    let so = answers_none args.edition held ns args.output.now (sym c.rows_stand.ensures ∙ not-false c.rows_stand.result c.if-not-rows_stand.false-raw) made.result made.new.out made.ensures c.if-count-eq0.true in
+    let so = answers_none args.edition held ns args.output.now (sym c.rows_stand.ensures ∙ c.if-not-rows_stand.false) made.result made.new.out made.ensures c.if-count-eq0.true in
     record { answer = so.answer; bytes = so.bytes }
 
 pub returns-then-output-count : goal.returns-then-output-count
@@ -45,7 +30,7 @@ returns-then-output-count c = let args = c.args in
     let held = args.held.now in
     let ns = args.rows.now in
     let made = c.compose-count in
-    let so = answers_no_room args.edition held ns args.output.now (sym c.rows_stand.ensures ∙ not-false c.rows_stand.result c.if-not-rows_stand.false-raw) made.result made.new.out made.ensures c.if-count-eq0.false c.if-output-count.true in
+    let so = answers_no_room args.edition held ns args.output.now (sym c.rows_stand.ensures ∙ c.if-not-rows_stand.false) made.result made.new.out made.ensures c.if-count-eq0.false c.if-output-count.true in
     record { answer = so.answer; bytes = so.bytes }
 
 pub slice_bounds-candidate-end : goal.slice_bounds-candidate-end
@@ -56,11 +41,12 @@ slice_bounds-candidate-end c = let args = c.args in
     composes_inside args.edition held ns made.result made.new.out made.ensures
 
 pub returns : goal.returns
-returns c = let args = c.args in
+returns c =
+    let args = c.args in
     let held = args.held.now in
     let ns = args.rows.now in
     let made = c.compose-count in
-    let copy = c.??copy in
-    let so = answers_written args.edition held ns args.output.now (sym c.rows_stand.ensures ∙ not-false c.rows_stand.result c.if-not-rows_stand.false-raw) made.result made.new.out made.ensures
-    c.if-count-eq0.false c.if-output-count.false copy.result copy.new.src copy.ensures.0 copy.ensures.1 in
+    let copied = c.copy_from_slice in
+    let so = answers_written args.edition held ns args.output.now (sym c.rows_stand.ensures ∙ c.if-not-rows_stand.false) made.result made.new.out made.ensures
+    c.if-count-eq0.false c.if-output-count.false (copied.new.self ++ drop made.result args.output.now) (ap (λ l. l ++ drop made.result args.output.now) copied.ensures.after) in
     record { answer = so.answer; bytes = so.bytes }

@@ -22,7 +22,7 @@ loop-i-preserved c = let args = c.args in
     turn_next args.held.now args.rows.now at.out at.at at.i at.invariant c.loop-i-test.true put.new.out put.result put.ensures
 
 pub put_marks-requires : goal.put_marks-requires
-put_marks-requires c = (c.loop-i.invariant.buffer, c.ending_of.ensures.few)
+put_marks-requires c = record { out_len = c.loop-i.invariant.buffer; few = c.ending_of.ensures.few }
 
 pub returns : goal.returns
 returns c = let args = c.args in

@@ -1,5 +1,7 @@
 -- `put` copies where there is room.
+use Prim.Native.Nat.{◌+◌, ◌-◌}
 use native.Mathlib.Omega.{arith}
+use lib.ListN.{length}
 use Rattle.writer.proofs.LayingLaws.{put_outside, put_none, put_copied}
 use Rattle.writer.proofs.laying.put.Goals as goal
 
@@ -14,6 +16,7 @@ returns-then-out-at-2 c = let args = c.args in
     put_none args.out.now args.at args.new.now (omega arith)
 
 pub returns : goal.returns
-returns c = let args = c.args in
-    let copy = c.??copy in
-    put_copied args.out.now args.at args.new.now copy.new.src copy.result c.if-out-at.false c.if-out-at-2.false copy.ensures.0 copy.ensures.1
+returns c =
+    let args = c.args in
+    let copied = c.copy_from_slice in
+    put_copied args.out.now args.at args.new.now copied.new.self (args.at + length args.new.now - args.at) c.if-out-at.false c.if-out-at-2.false (omega arith) copied.ensures.after

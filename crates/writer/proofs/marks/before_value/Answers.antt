@@ -17,4 +17,4 @@ returns-in-CountOnly c = record { few = c.none-in-CountOnly.ensures.few; marks =
 
 pub returns-in_default : goal.returns-in_default
 returns-in_default c = let rule = rule_of widest c.args.format in
-    record { few = c.one.ensures.few; marks = c.one.ensures.marks ∙ before_others rule c.shape_of-shape.result c.shape_of-shape.ensures c.in_default.keys4 }
+    record { few = c.one.ensures.few; marks = c.one.ensures.marks ∙ before_others rule c.shape_of-shape.result c.shape_of-shape.ensures c.in_default.not-Segments03 c.in_default.not-Segments04 c.in_default.not-CountOnly }

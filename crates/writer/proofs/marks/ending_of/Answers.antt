@@ -17,9 +17,9 @@ returns-in-Rest c = let args = c.args in
 pub returns-then-in_segment : goal.returns-then-in_segment
 returns-then-in_segment c = let args = c.args in
     let shape = c.shape_of-shape in
-    record { few = omega arith; marks = sym (ap (λ t. cond t (FS ∷ RS ∷ []) (RS ∷ []) ++ (EOT ∷ [])) (sym c.in_segment.ensures ∙ c.if-in_segment.true)) ∙ ending_others (rule_of widest args.format) args.p shape.result shape.ensures c.in_default.keys2 }
+    record { few = omega arith; marks = sym (ap (λ t. cond t (FS ∷ RS ∷ []) (RS ∷ []) ++ (EOT ∷ [])) (sym c.in_segment.ensures ∙ c.if-in_segment.true)) ∙ ending_others (rule_of widest args.format) args.p shape.result shape.ensures c.in_default.not-Rest }
 
 pub returns-else-in_segment : goal.returns-else-in_segment
 returns-else-in_segment c = let args = c.args in
     let shape = c.shape_of-shape in
-    record { few = omega arith; marks = sym (ap (λ t. cond t (FS ∷ RS ∷ []) (RS ∷ []) ++ (EOT ∷ [])) (sym c.in_segment.ensures ∙ c.if-in_segment.false)) ∙ ending_others (rule_of widest args.format) args.p shape.result shape.ensures c.in_default.keys2 }
+    record { few = omega arith; marks = sym (ap (λ t. cond t (FS ∷ RS ∷ []) (RS ∷ []) ++ (EOT ∷ [])) (sym c.in_segment.ensures ∙ c.if-in_segment.false)) ∙ ending_others (rule_of widest args.format) args.p shape.result shape.ensures c.in_default.not-Rest }
