@@ -1,0 +1,26 @@
+-- `numbers_into` reads with ample room.
+use mathlib.Core.Path.{◌≡◌, sym, ap, ◌∙◌}
+use native.Mathlib.Omega.{arith}
+use lib.ListN.{length}
+use Rattle.label.specs.Answer.{answer_of}
+use Rattle.round.proofs.RoundLaws.{holds_accepted, holds_refused}
+use Rattle.round.proofs.numbers_into.Goals as goal
+
+pub overflow_mul-result : goal.overflow_mul-result
+overflow_mul-result c = let args = c.args in
+    let read = c.read-reading in
+    let long : length read.new.table ≡ length args.table.now = omega arith in
+    let so = holds_accepted args.edition args.message.now args.table.now read.new.table c.requires long read.ensures.rows c.in-Accepted.counts (sym (ap answer_of c.in-Accepted.is) ∙ read.ensures.answer) in
+    omega (arith, so.inside)
+
+pub returns-in-Accepted : goal.returns-in-Accepted
+returns-in-Accepted c = let args = c.args in
+    let read = c.read-reading in
+    let long : length read.new.table ≡ length args.table.now = omega arith in
+    holds_accepted args.edition args.message.now args.table.now read.new.table c.requires long read.ensures.rows c.in-Accepted.counts (sym (ap answer_of c.in-Accepted.is) ∙ read.ensures.answer)
+
+pub returns-in-Refused : goal.returns-in-Refused
+returns-in-Refused c = let args = c.args in
+    let read = c.read-reading in
+    let long : length read.new.table ≡ length args.table.now = omega arith in
+    holds_refused args.edition args.message.now args.table.now read.new.table c.requires long read.ensures.rows c.in-Refused.field-0 (sym (ap answer_of c.in-Refused.is) ∙ read.ensures.answer)
