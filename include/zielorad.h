@@ -1,6 +1,6 @@
 /* Reading and writing of ISO/IEC 15434 labels, for C and C++.
  *
- * Link with libzielorad.a, which `rt staticlib zielorad` makes under target/staticlib. It is for x86-64, calls no system function but
+ * Link with libzielorad.a, which `rt lib` in crates/zielorad makes in crates/zielorad/out. It is for x86-64, calls no system function but
  * memcpy and memset, keeps nothing between calls and can be called from several threads at once.
  *
  * In every function:

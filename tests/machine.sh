@@ -5,12 +5,9 @@ has() {
     command -v "$1" >/dev/null 2>&1
 }
 
-# The kit's emulator, or the system's; nothing where there is none.
+# The system's emulator; nothing where there is none.
 find_emulator() {
-    rt=$(command -v rt) || rt=
-    kit=${RATTLE_HOME:-${rt:+$(dirname "$(dirname "$(readlink -f "$rt")")")}}
-    emulator=$kit/on/$(uname -m)/toolchain/bin/qemu-x86_64
-    [ -x "$emulator" ] || emulator=$(command -v qemu-x86_64) || emulator=
+    emulator=$(command -v qemu-x86_64) || emulator=
 }
 
 # Sets CC and CXX, LIBS (words for the linker of C), RUNNER (what runs a program, nothing on x86-64) and HOST_CC (the compiler for this
