@@ -8,7 +8,7 @@ use borrow.Author.Tests.{eqb-true, ne_eqb}
 use lib.Dec.{eqb}
 use Rattle.label.specs.declared.Edition.{Edition}
 use Rattle.label.specs.declared.Edition.TheVariants.{Edition2005, Edition2025}
-use Rattle.label.specs.Bytes.{Bytes, ascii}
+use Rattle.label.specs.Bytes.{ascii}
 use Rattle.label.specs.Formats.{Format, formats, Rule, as_fields, as_rest, as_segments, as_elements, as_text, as_counted, unknown, added, rule_in, rule_of}
 use Rattle.label.specs.Message.{Each}
 use Rattle.label.proofs.AllDefinitions.{all_definitions}

@@ -22,7 +22,7 @@ use Rattle.label.specs.Fields.{transport}
 use Rattle.label.specs.Faults.{fields_fault, elements_fault, whole_fault}
 use Rattle.label.specs.declared.Edition.{Edition}
 use Rattle.label.specs.declared.Edition.TheVariants.{Edition2005, Edition2025}
-use Rattle.label.specs.Formats.{text_byte, Format, formats, rule_in, Rule, rule_of, as_fields, as_rest, as_segments, as_elements, as_text, as_counted, unknown}
+use Rattle.label.specs.Formats.{text_byte, Format, formats, Rule, rule_of, as_fields, as_rest, as_segments, as_elements, as_text, as_counted, unknown}
 use Rattle.label.specs.Layout.{bytes_of}
 use Rattle.label.specs.Envelope.{Envelope, fields, whole_rest, segments, elements, text, counted, Within}
 use Rattle.label.specs.Written.{two_digits, parts}

@@ -16,7 +16,7 @@ use Rattle.label.specs.declared.PieceFault.TheVariants.{Faulty, Faultless}
 use Rattle.label.specs.declared.BodyFault.{BodyFault}
 use Rattle.label.specs.declared.BodyFault.TheVariants.{InPiece}
 use Rattle.label.specs.Bytes.{Bytes, GS, plain, every}
-use Rattle.label.specs.Pieces.{pieces, last_is_empty, without_last}
+use Rattle.label.specs.Pieces.{last_is_empty, without_last}
 use Rattle.label.specs.declared.Limit.{Limit}
 use Rattle.label.specs.Limits.{limits, limit_of, long_as, ◌to◌}
 use Rattle.label.specs.Values.{Version, version02, version96}

@@ -1,7 +1,7 @@
 -- Ordinals by counting: an envelope has one indicator, in front of its other rows, so that counting indicators comes to the ordinals that the list of
 -- envelopes has. And what counting says of a row and of the one behind it.
 use Prim.Native.Nat.{ℕ, zero, suc, ◌+◌, ◌≤◌, ◌<◌}
-use mathlib.Core.Path.{◌≡◌, refl, sym, ap, ◌∙◌, subst}
+use mathlib.Core.Path.{◌≡◌, refl, sym, ap, ◌∙◌}
 use mathlib.Core.Bool.{Bool, true, false, not, cond, false≢true}
 use mathlib.Core.List.{List, [], ◌∷◌, ◌++◌, map, append_assoc, append-nil, map-append}
 use native.Mathlib.Omega.{arith}
@@ -12,7 +12,7 @@ use Rattle.label.specs.Bytes.{Bytes, EOT, FS, GS, RS, US, every}
 use Rattle.label.specs.Layout.{Item, Part, mark, item, marks, Row, items_of, rows_from, separated, further, ended}
 use Rattle.label.specs.Segments.{Element, Segment}
 use Rattle.label.specs.Envelope.{Envelope, fields, whole_rest, segments, elements, text, counted}
-use Rattle.label.specs.Written.{indicator_row, value_row, piece_row, tag_row, element_row, sub_element_row, body_row, rowed, rowed_each, indicator, element_parts, segment_parts, parts, value_parts}
+use Rattle.label.specs.Written.{indicator_row, value_row, piece_row, tag_row, element_row, sub_element_row, rowed, rowed_each, element_parts, segment_parts, parts, value_parts}
 use Rattle.label.specs.Message.{header, is_rest_alone, message_parts, rows_of, ordinals_from, ordinals_of}
 use Rattle.label.specs.ReadMessage.{Outcome, read, refused}
 use Rattle.label.specs.Answer.{rows_read, ordinals_read}

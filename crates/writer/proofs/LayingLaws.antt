@@ -5,7 +5,7 @@ use mathlib.Core.Bool.{Bool, true, false, ◌&&◌, cond}
 use mathlib.Core.List.{List, [], ◌∷◌, ◌++◌, map, append_assoc, append-nil}
 use native.Mathlib.Omega.{arith}
 use lib.ListN.{length, get_or, set, take, drop, length-append, length-take, length-drop}
-use lib.Seq.{take-append_seam, take-append-add, take_all, take-suc, set_split, drop-drop}
+use lib.Seq.{take-append_seam, take-append-add, take-suc, set_split, drop-drop}
 use borrow.Author.Tests.{leb-true, leb-false, eqb-true, ne_eqb}
 use lib.Dec.{leb, eqb}
 use Rattle.label.specs.Bytes.{Bytes, every}
@@ -17,7 +17,6 @@ use Rattle.label.specs.Rendered.{marks_between, ending, rendered_after, rendered
 use Rattle.label.specs.Writing.{rows_in, inside, item_in, items_in}
 use Rattle.label.specs.Counting.{row_from}
 use Rattle.label.proofs.Tests.{both}
-use Rattle.leaves.proofs.Turns.{drop_past, take_rest}
 use Rattle.given.specs.Given.{Whole, row_or_none}
 use Rattle.given.proofs.GivenLaws.{row_there, rows_step, rows_past, next_whole, stands_so}
 use Rattle.writer.specs.Laying.{Put, Laying, marks_before, rendered_from, Ready, Buffered}

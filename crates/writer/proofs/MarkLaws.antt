@@ -1,16 +1,13 @@
 -- What a format's shape says of the marks around its rows.
 use Prim.Native.Nat.{ℕ}
 use mathlib.Core.Path.{◌≡◌, refl, ap, ◌∙◌}
-use mathlib.Core.List.{List, [], ◌∷◌, ◌++◌}
-use denote.Enum.Declared.{tag_of}
-use types.Run.{OneOf, miss}
+use mathlib.Core.List.{[], ◌∷◌, ◌++◌}
 use Rattle.label.specs.Bytes.{EOT, GS}
 use Rattle.label.specs.Formats.{Rule}
 use Rattle.label.specs.Rendered.{before_value, closing, ending}
 use Rattle.formats.specs.declared.Shape.{Shape}
 use Rattle.formats.specs.declared.Shape.TheVariants.{Fields, Rest, Segments03, Segments04, Elements05, Elements06, Text, Counted, Elements12, CountOnly, Unknown}
 use Rattle.formats.specs.Shapes.{rule_for}
-use Rattle.formats.specs.contracts.Shape as shape
 
 -- GS stands before a header value of all shapes but the segments and the count alone
 before_by : (s : Shape) → (s ≡ Segments03 → ⊥) → (s ≡ Segments04 → ⊥) → (s ≡ CountOnly → ⊥) → GS ∷ [] ≡ before_value (rule_for s)

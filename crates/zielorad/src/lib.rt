@@ -1,4 +1,4 @@
-// The library for other programs: reading, writing and parts, with answers as structs of numbers. `rt staticlib zielorad` makes
+// The library for other programs: reading, writing and parts, with answers as structs of numbers. `rt lib` here makes
 // the archive; zielorad.h tells C and C++ of it. Each function is thin over the proved one and has the same equations.
 #![tactic(auto)]
 

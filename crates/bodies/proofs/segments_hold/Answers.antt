@@ -3,7 +3,7 @@ use mathlib.Core.Path.{sym, ap, ◌∙◌}
 use mathlib.Core.Bool.{not, ◌&&◌}
 use native.Mathlib.Omega.{arith}
 use Prim.Native.Nat.{◌-◌}
-use borrow.Author.Tests.{eq-eqb, ne_eqb, not-true, not-false}
+use borrow.Author.Tests.{eq-eqb, ne_eqb}
 use lib.ListN.{length, take}
 use lib.Seq.{length-take-le}
 use Rattle.label.specs.Bytes.{FS}
@@ -20,7 +20,7 @@ returns-then-body-eq0 c = let body = c.args.body.now in
 pub returns-then-not-last_empty : goal.returns-then-not-last_empty
 returns-then-not-last_empty c = let body = c.args.body.now in
     let k = c.args.k in
-    let ends = sym c.last_empty.ensures ∙ not-true _ c.if-not-last_empty.true-raw in
+    let ends = sym c.last_empty.ensures ∙ c.if-not-last_empty.true in
     sym (λ i. not (ne_eqb (length body) 0 c.if-body-eq0.false i) && ends i && every_from (piece_test k) 0 (pieces (separator_of k) (take (length body - 1) body)))
 
 pub slice_bounds-pieces_hold-end : goal.slice_bounds-pieces_hold-end
@@ -30,6 +30,6 @@ slice_bounds-pieces_hold-end c = let body = c.args.body.now in
 pub returns : goal.returns
 returns c = let body = c.args.body.now in
     let k = c.args.k in
-    let ends = sym c.last_empty.ensures ∙ not-false _ c.if-not-last_empty.false-raw in
+    let ends = sym c.last_empty.ensures ∙ c.if-not-last_empty.false in
     c.pieces_hold.ensures
     ∙ sym (λ i. not (ne_eqb (length body) 0 c.if-body-eq0.false i) && ends i && every_from (piece_test k) 0 (pieces (separator_of k) (take (length body - 1) body)))

@@ -2,7 +2,6 @@ use Prim.Native.Nat.{◌+◌, ◌-◌, ◌≤◌}
 use mathlib.Core.Path.{◌≡◌, refl, sym, ap, ◌∙◌}
 use mathlib.Core.Bool.{not, true}
 use native.Mathlib.Omega.{arith}
-use borrow.Author.Tests.{not-false}
 use lib.ListN.{length, take, drop}
 use lib.Dec.{eqb}
 use Rattle.label.specs.Bytes.{every}
@@ -23,7 +22,7 @@ loop-i-preserved c = let args = c.args in
     let inside : at.i + 64 ≤ length s = omega (arith, c.block_starts-starts.ensures, c.loop-i-test.true) in
     let long : at.i + 64 - at.i ≡ 64 = omega arith in
     let none : every (λ b. not (eqb b args.c)) (take 64 (drop at.i s)) ≡ true
-    = ap (λ n. every (λ b. not (eqb b args.c)) (take n (drop at.i s))) (sym long) ∙ sym lacks.ensures ∙ not-false lacks.result c.if-not-lacks.false-raw in
+    = ap (λ n. every (λ b. not (eqb b args.c)) (take n (drop at.i s))) (sym long) ∙ sym lacks.ensures ∙ c.if-not-lacks.false in
     omega (arith, at.invariant, seek_block args.c s at.i 64 inside none)
 
 pub returns : goal.returns

@@ -1,9 +1,7 @@
-use Prim.Native.Nat.{◌-◌}
 use mathlib.Core.Path.{refl, sym, ap, ◌∙◌}
 use mathlib.Core.Bool.{true, false}
 use native.Mathlib.Omega.{arith}
 use borrow.Author.Rules.{rules}
-use borrow.Author.Tests.{not-true, not-false}
 use Rattle.label.specs.Bytes.{plain}
 use Rattle.leaves.proofs.Turns.{drop_past}
 use Rattle.walk.specs.Cursors.{plain_run}
@@ -17,14 +15,14 @@ pub returns-then-not-in_class : goal.returns-then-not-in_class
 returns-then-not-in_class c = let at = c.args.at in
     let m = c.args.m.now in
     let i = c.loop-i.i in
-    let stops = run_by m i c.loop-i-test.true plain false (sym c.in_class.ensures ∙ not-true _ c.if-not-in_class.true-raw) in
+    let stops = run_by m i c.loop-i-test.true plain false (sym c.in_class.ensures ∙ c.if-not-in_class.true) in
     omega (arith, stops, c.loop-i.invariant.1)
 
 pub loop-i-preserved : goal.loop-i-preserved
 loop-i-preserved c = let at = c.args.at in
     let m = c.args.m.now in
     let i = c.loop-i.i in
-    let on = run_by m i c.loop-i-test.true plain true (sym c.in_class.ensures ∙ not-false _ c.if-not-in_class.false-raw) in
+    let on = run_by m i c.loop-i-test.true plain true (sym c.in_class.ensures ∙ c.if-not-in_class.false) in
     (search rules, omega (arith, on, c.loop-i.invariant.1))
 
 pub returns : goal.returns

@@ -1,6 +1,6 @@
-use Prim.Native.Nat.{◌*◌, ◌+◌, ◌-◌}
+use Prim.Native.Nat.{◌*◌, ◌+◌}
 use mathlib.Core.Path.{refl, sym, ap, ◌∙◌}
-use mathlib.Core.Bool.{true, false}
+use mathlib.Core.Bool.{false}
 use native.Mathlib.Omega.{arith}
 use borrow.Author.Rules.{rules}
 use lib.ListN.{drop}
@@ -34,11 +34,11 @@ loop-i-preserved c =
     let inside = c.loop-i-test.true in
     let is = sym c.in_class.ensures ∙ c.if-not-in_class.false in
     elim c.if-n-lt-LONGEST.branch [
-      then-n-lt-LONGEST w ↦ (
+      | then-n-lt-LONGEST w ↦ (
         omega (arith, digit_value _ is),
         ap (λ k. count_from k (drop (i + 1) m)) (w.n-is ∙ ap (λ r. 10 * n + r) w.wide.ensures) ∙ count_grows m i inside n is w.if-n-lt-LONGEST.true ∙ c.loop-i.invariant.1,
       )
-    | else-n-lt-LONGEST w ↦ (
+      | else-n-lt-LONGEST w ↦ (
         omega arith,
         ap (λ k. count_from k (drop (i + 1) m)) w.n-is ∙ count_stays m i inside n is w.if-n-lt-LONGEST.false ∙ c.loop-i.invariant.1,
       )

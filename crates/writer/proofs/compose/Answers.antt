@@ -2,7 +2,6 @@
 use mathlib.Core.Path.{refl, sym, ◌∙◌}
 use mathlib.Core.Bool.{true, false}
 use native.Mathlib.Omega.{arith}
-use borrow.Author.Tests.{not-true, not-false}
 use lib.ListN.{length-take}
 use Rattle.given.proofs.GivenLaws.{stands_so}
 use Rattle.writer.proofs.Composed.{composed_not_long, composed_not_empty, composed_not_true, composes_none, composes_compared}
@@ -16,7 +15,7 @@ pub returns-then-not-ordinals_counted : goal.returns-then-not-ordinals_counted
 returns-then-not-ordinals_counted c = let args = c.args in
     let counted = c.ordinals_counted in
     composes_none args.edition args.held.now args.rows.now 0 args.out.now
-    (composed_not_true args.edition args.held.now args.rows.now (sym counted.ensures ∙ not-true counted.result c.if-not-ordinals_counted.true-raw)) refl
+    (composed_not_true args.edition args.held.now args.rows.now (sym counted.ensures ∙ c.if-not-ordinals_counted.true)) refl
 
 pub returns-then-out-count : goal.returns-then-out-count
 returns-then-out-count c = let args = c.args in
@@ -38,7 +37,7 @@ returns-then-same_rows c = let args = c.args in
     let counted = c.ordinals_counted in
     let laid = c.lay_out-count in
     let same = c.same_rows in
-    composes_compared args.edition args.held.now args.rows.now c.requires.stand (sym counted.ensures ∙ not-false counted.result c.if-not-ordinals_counted.false-raw) (omega (arith, c.if-rows-eq0.false)) laid.result laid.new.out laid.ensures c.if-out-count.false
+    composes_compared args.edition args.held.now args.rows.now c.requires.stand (sym counted.ensures ∙ c.if-not-ordinals_counted.false) (omega (arith, c.if-rows-eq0.false)) laid.result laid.new.out laid.ensures c.if-out-count.false
     same.result same.ensures true c.if-same_rows.true
 
 pub returns-else-same_rows : goal.returns-else-same_rows
@@ -46,5 +45,5 @@ returns-else-same_rows c = let args = c.args in
     let counted = c.ordinals_counted in
     let laid = c.lay_out-count in
     let same = c.same_rows in
-    composes_compared args.edition args.held.now args.rows.now c.requires.stand (sym counted.ensures ∙ not-false counted.result c.if-not-ordinals_counted.false-raw) (omega (arith, c.if-rows-eq0.false)) laid.result laid.new.out laid.ensures c.if-out-count.false
+    composes_compared args.edition args.held.now args.rows.now c.requires.stand (sym counted.ensures ∙ c.if-not-ordinals_counted.false) (omega (arith, c.if-rows-eq0.false)) laid.result laid.new.out laid.ensures c.if-out-count.false
     same.result same.ensures false c.if-same_rows.false

@@ -1,10 +1,5 @@
-use Prim.Native.Nat.{ℕ, ◌+◌, ◌-◌, ◌/◌}
-use mathlib.Core.Path.{◌≡◌, sym, ◌∙◌, subst}
-use mathlib.Core.List.{List}
-use borrow.Author.Tests.{not-true, not-false}
-use lib.ListN.{length}
-use Rattle.label.specs.declared.Edition.{Edition}
-use Rattle.label.specs.Bytes.{Bytes}
+use Prim.Native.Nat.{◌+◌}
+use mathlib.Core.Path.{sym, ◌∙◌, subst}
 use Rattle.label.specs.Limits.{row_width}
 use Rattle.label.specs.ReadMessage.{reading}
 use Rattle.label.specs.Answer.{rows_read}
@@ -31,7 +26,7 @@ returns-then-not-like c = let args = c.args in
     let m = args.m.now in
     let at = c.loop-i in
     compared_differs m (rows_read (reading args.edition m)) args.rows.now at.c at.i c.requires (at.invariant args.edition (sym c.rows_of.ensures ∙ c.if-rows_of-rows.false)) c.loop-i-test.true
-    (sym c.like.ensures ∙ not-true c.like.result c.if-not-like.true-raw)
+    (sym c.like.ensures ∙ c.if-not-like.true)
 
 pub loop-i-preserved : goal.loop-i-preserved
 loop-i-preserved c edition counted = let args = c.args in
@@ -40,7 +35,7 @@ loop-i-preserved c edition counted = let args = c.args in
     let all = rows_read (reading edition m) in
     let at = c.loop-i in
     subst (λ (next : Cursor). Compared m all ns next (at.i + row_width)) (sym c.next-c.ensures)
-    (compared_next m all ns at.c at.i c.requires (at.invariant edition counted) c.loop-i-test.true (sym c.like.ensures ∙ not-false c.like.result c.if-not-like.false-raw))
+    (compared_next m all ns at.c at.i c.requires (at.invariant edition counted) c.loop-i-test.true (sym c.like.ensures ∙ c.if-not-like.false))
 
 pub returns : goal.returns
 returns c = let args = c.args in

@@ -1,7 +1,6 @@
 -- `write` asks in the paper's order, 20, 21, 22, and copies last.
 use mathlib.Core.Path.{sym, ap, ◌∙◌}
 use mathlib.Core.List.{◌++◌}
-use native.Mathlib.Omega.{arith}
 use borrow.Author.Rules.{rules}
 use lib.ListN.{drop}
 use Rattle.writer.proofs.Composed.{composes_inside, answers_bad_rows, answers_none, answers_no_room, answers_written}

@@ -1,7 +1,6 @@
 -- `judge_body` is `body_found`: 12, then 10, then the fault of a body that breaks its rules.
 use mathlib.Core.Path.{sym, ap, ◌∙◌}
 use Prim.Native.Nat.{◌-◌, ◌+◌}
-use borrow.Author.Tests.{not-true, not-false}
 use Rattle.envelope.specs.declared.Found.TheVariants.{Closed}
 use Rattle.envelope.proofs.BodyLaws.{rows_of_part, body_none, body_byte, body_rule, body_closed}
 use borrow.Author.Rules.{rules}
@@ -16,14 +15,14 @@ pub returns-then-not-all_in : goal.returns-then-not-all_in
 returns-then-not-all_in c = let args = c.args in
     let found = c.find_far-end in
     body_byte args.k args.before args.m.now args.at found.result c.requires.1 found.ensures c.if-m-end.false
-    (sym (rw c.permitted.ensures at c.all_in.ensures) ∙ not-true _ c.if-not-all_in.true-raw)
+    (sym (rw c.permitted.ensures at c.all_in.ensures) ∙ c.if-not-all_in.true)
 
 pub returns-then-not-rules_hold : goal.returns-then-not-rules_hold
 returns-then-not-rules_hold c = let args = c.args in
     let found = c.find_far-end in
     c.judge_fault.ensures
     ∙ body_rule args.k args.before args.m.now args.at found.result c.requires.1 found.ensures c.if-m-end.false
-    (sym (rw c.permitted.ensures at c.all_in.ensures) ∙ not-false _ c.if-not-all_in.false-raw) (sym c.rules_hold.ensures ∙ not-true _ c.if-not-rules_hold.true-raw)
+    (sym (rw c.permitted.ensures at c.all_in.ensures) ∙ c.if-not-all_in.false) (sym c.rules_hold.ensures ∙ c.if-not-rules_hold.true)
 
 pub overflow_add-result-2 : goal.overflow_add-result-2
 overflow_add-result-2 c = let is = c.rows_in.ensures in
@@ -36,4 +35,4 @@ returns c = let args = c.args in
     let found = c.find_far-end in
     ap (λ n. Closed (found.result + 1) (args.before + n)) c.rows_in.ensures
     ∙ body_closed args.k args.before args.m.now args.at found.result c.requires.1 found.ensures c.if-m-end.false
-    (sym (rw c.permitted.ensures at c.all_in.ensures) ∙ not-false _ c.if-not-all_in.false-raw) (sym c.rules_hold.ensures ∙ not-false _ c.if-not-rules_hold.false-raw)
+    (sym (rw c.permitted.ensures at c.all_in.ensures) ∙ c.if-not-all_in.false) (sym c.rules_hold.ensures ∙ c.if-not-rules_hold.false)

@@ -4,7 +4,6 @@ use native.Mathlib.Omega.{arith}
 use mathlib.Core.List.{[], ◌∷◌}
 use Prim.Native.Nat.{◌+◌, ◌-◌}
 use Rattle.label.specs.Bytes.{FS, GS, US}
-use borrow.Author.Tests.{not-true, not-false}
 use Rattle.envelope.proofs.ValueLaws.{begins_long}
 use Rattle.envelope.proofs.FormatTests.{segments_short, segments_class, segments_marks, segments_body}
 use Rattle.label.specs.Bytes.{capital_or_digit, every}
@@ -18,7 +17,7 @@ returns-then-m-at-lt-RELEASE_LENGTH c = segments_short c.args.k c.args.m.now c.a
 pub returns-then-not-all_in : goal.returns-then-not-all_in
 returns-then-not-all_in c = let six : c.args.at + 6 - c.args.at ≡ 6 = omega arith in
     let class = c.all_in.ensures ∙ ap (λ n. every capital_or_digit (take n (drop c.args.at c.args.m.now))) six in
-    segments_class c.args.k c.args.m.now c.args.at c.requires (sym class ∙ not-true _ c.if-not-all_in.true-raw)
+    segments_class c.args.k c.args.m.now c.args.at c.requires (sym class ∙ c.if-not-all_in.true)
 
 pub returns-then-agree-ne3 : goal.returns-then-agree-ne3
 returns-then-agree-ne3 c = segments_marks c.args.k c.args.m.now c.args.at c.requires (λ is. c.if-agree-ne3.true (c.agree.ensures ∙ is))
@@ -33,4 +32,4 @@ pub returns : goal.returns
 returns c = let six : c.args.at + 6 - c.args.at ≡ 6 = omega arith in
     let class = c.all_in.ensures ∙ ap (λ n. every capital_or_digit (take n (drop c.args.at c.args.m.now))) six in
     c.judge_body.ensures
-    ∙ segments_body c.args.k c.args.m.now c.args.at c.requires c.if-m-at-lt-RELEASE_LENGTH.false (sym class ∙ not-false _ c.if-not-all_in.false-raw) (sym c.agree.ensures ∙ c.if-agree-ne3.false)
+    ∙ segments_body c.args.k c.args.m.now c.args.at c.requires c.if-m-at-lt-RELEASE_LENGTH.false (sym class ∙ c.if-not-all_in.false) (sym c.agree.ensures ∙ c.if-agree-ne3.false)

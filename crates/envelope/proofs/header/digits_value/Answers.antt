@@ -1,6 +1,5 @@
 use mathlib.Core.Path.{◌∙◌}
 use native.Mathlib.Omega.{arith}
-use Prim.Native.Nat.{◌-◌}
 use Rattle.envelope.proofs.ValueLaws.{count_small, count_bounded, count_turn, count_end}
 use borrow.Author.Rules.{rules}
 use Rattle.envelope.proofs.header.digits_value.Goals as goal
@@ -14,13 +13,13 @@ overflow_mul-n c = let few = c.requires in
 pub overflow_add-n : goal.overflow_add-n
 overflow_add-n c = let few = c.requires in
     let inside = c.loop-i-test.true in
-    let byte = c.shared_slice_known-in-loop-i-1.given c.loop-i.i in
+    let byte = c.type_inv.s c.loop-i.i in
     let is = c.worth.ensures in
     let small = count_small c.loop-i.n c.loop-i.i c.worth.result (omega arith) (omega arith) c.loop-i.invariant.1 in
     search rules
 
 pub loop-i-preserved : goal.loop-i-preserved
-loop-i-preserved c = let byte = c.shared_slice_known-in-loop-i-1.given c.loop-i.i in
+loop-i-preserved c = let byte = c.type_inv.s c.loop-i.i in
     let is = c.worth.ensures in (
       search rules,
       count_bounded c.loop-i.n c.loop-i.i c.worth.result (omega arith) c.loop-i.invariant.1,

@@ -1,6 +1,5 @@
 use mathlib.Core.Path.{◌∙◌, subst}
 use native.Mathlib.Omega.{arith}
-use Prim.Native.Nat.{◌-◌}
 use Rattle.judge.specs.Turns.{TurnSo}
 use Rattle.judge.proofs.envelopes.walk_envelopes.Goals as goal
 

@@ -1,8 +1,6 @@
 use mathlib.Core.Path.{refl, sym, ◌∙◌}
-use Prim.Native.Nat.{◌-◌}
 use native.Mathlib.Omega.{arith}
 use borrow.Author.Rules.{rules}
-use borrow.Author.Tests.{not-true, not-false}
 use Rattle.label.specs.Elements.{element06}
 use Rattle.pieces.proofs.ElementLaws.{digits_past, digits_stop, digits_on, digits_done}
 use Rattle.pieces.proofs.elements.element_06.Goals as goal
@@ -18,14 +16,14 @@ pub returns-then-not-in_class : goal.returns-then-not-in_class
 returns-then-not-in_class c = let s = c.args.s.now in
     let i = c.loop-i.i in
     c.capital_and_more.ensures
-    ∙ digits_stop s i c.loop-i-test.true c.if-s-i.false (sym c.in_class.ensures ∙ not-true _ c.if-not-in_class.true-raw)
+    ∙ digits_stop s i c.loop-i-test.true c.if-s-i.false (sym c.in_class.ensures ∙ c.if-not-in_class.true)
     ∙ c.loop-i.invariant.1
 
 pub loop-i-preserved : goal.loop-i-preserved
 loop-i-preserved c = let s = c.args.s.now in
     let i = c.loop-i.i in (
       search rules,
-      digits_on s i c.loop-i-test.true c.if-s-i.false (sym c.in_class.ensures ∙ not-false _ c.if-not-in_class.false-raw)
+      digits_on s i c.loop-i-test.true c.if-s-i.false (sym c.in_class.ensures ∙ c.if-not-in_class.false)
           ∙ c.loop-i.invariant.1,
     )
 

@@ -4,11 +4,10 @@ use native.Mathlib.Omega.{arith}
 use Rattle.label.specs.declared.Stretch.{Stretch}
 use Rattle.stretches.specs.Stretches.{Lies}
 use Rattle.reader.proofs.NotedRows.{one_kept, lies_as_noted}
-use borrow.Author.Tests.{not-false}
 use Rattle.reader.proofs.parts.stretch_of.Goals as goal
 
 pub sweep-swept-requires : goal.sweep-swept-requires
-sweep-swept-requires c = (omega arith, c.framed.ensures (not-false _ c.if-not-framed.false-raw))
+sweep-swept-requires c = (omega arith, c.framed.ensures (c.if-not-framed.false))
 
 pub returns-in-Good : goal.returns-in-Good
 returns-in-Good c = let args = c.args in

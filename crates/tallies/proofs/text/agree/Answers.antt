@@ -1,6 +1,6 @@
 use mathlib.Core.Path.{sym, ap, ◌∙◌}
 use native.Mathlib.Omega.{arith}
-use Prim.Native.Nat.{◌+◌, ◌-◌}
+use Prim.Native.Nat.{◌+◌}
 use lib.ListN.{drop}
 use Rattle.label.specs.ReadMessage.{agreement}
 use Rattle.tallies.proofs.Agreement.{agree_short, agree_end, agree_differ, agree_on}

@@ -1,4 +1,3 @@
-use Prim.Native.Nat.{◌-◌}
 use mathlib.Core.Path.{subst}
 use Rattle.label.specs.Bytes.{Bytes}
 use Rattle.given.specs.Given.{as_row}

@@ -3,7 +3,6 @@ use mathlib.Core.Path.{◌≡◌, sym, ap, ◌∙◌}
 use mathlib.Core.Bool.{true, false}
 use native.Mathlib.Omega.{arith}
 use borrow.Author.Rules.{rules}
-use borrow.Author.Tests.{not-true, not-false}
 use lib.ListN.{drop}
 use Rattle.sweeps.specs.Quick.{digit_run}
 use Rattle.sweeps.proofs.Framing.{digit_behind}
@@ -19,13 +18,13 @@ pub returns-then-not-in_class : goal.returns-then-not-in_class
 returns-then-not-in_class c = let args = c.args in
     let at = c.loop-i in
     let rest : args.at + 3 - at.i ≡ suc (args.at + 3 - (at.i + 1)) = omega (arith, c.loop-i-test.true) in
-    let stops = ap (λ n. digit_run n (drop at.i args.m.now)) rest ∙ digits_by args.m.now at.i at.invariant.0.0 (args.at + 3 - (at.i + 1)) false (sym c.in_class.ensures ∙ not-true _ c.if-not-in_class.true-raw) in
+    let stops = ap (λ n. digit_run n (drop at.i args.m.now)) rest ∙ digits_by args.m.now at.i at.invariant.0.0 (args.at + 3 - (at.i + 1)) false (sym c.in_class.ensures ∙ c.if-not-in_class.true) in
     (omega (arith, stops, at.invariant.1), at.invariant.0.0)
 
 pub loop-i-preserved : goal.loop-i-preserved
 loop-i-preserved c = let args = c.args in
     let at = c.loop-i in
-    let is = sym c.in_class.ensures ∙ not-false _ c.if-not-in_class.false-raw in
+    let is = sym c.in_class.ensures ∙ c.if-not-in_class.false in
     let rest : args.at + 3 - at.i ≡ suc (args.at + 3 - (at.i + 1)) = omega (arith, c.loop-i-test.true) in
     let on = ap (λ n. digit_run n (drop at.i args.m.now)) rest ∙ digits_by args.m.now at.i at.invariant.0.0 (args.at + 3 - (at.i + 1)) true is in
     ((digit_behind args.m.now c.requires.0 at.i at.invariant.0.0 is, omega (arith, c.loop-i-test.true)), omega (arith, on, at.invariant.1))

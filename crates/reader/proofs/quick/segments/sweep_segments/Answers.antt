@@ -2,7 +2,6 @@
 use Prim.Native.Nat.{◌+◌, ◌-◌}
 use mathlib.Core.Path.{◌≡◌, sym, ap, ◌∙◌, subst}
 use native.Mathlib.Omega.{arith}
-use borrow.Author.Tests.{not-false}
 use lib.ListN.{take, drop}
 use Rattle.label.specs.Bytes.{capital_or_digit, every}
 use Rattle.walk.specs.declared.Cursor.{Cursor}
@@ -51,4 +50,4 @@ returns c = let args = c.args in
     let six : args.at + 6 - args.at ≡ 6 = omega arith in
     λ some.
     segments_swept args.m.now args.f args.at pre.0.0 pre.0.1 args.w.from args.rows body.result body.new.notes (omega (arith, long))
-    (sym (ap (λ n. every capital_or_digit (take n (drop args.at args.m.now))) six) ∙ sym all.ensures ∙ not-false all.result c.if-not-all_in.false-raw) (sym c.agree.ensures ∙ c.if-agree-ne3.false) (body.ensures some)
+    (sym (ap (λ n. every capital_or_digit (take n (drop args.at args.m.now))) six) ∙ sym all.ensures ∙ c.if-not-all_in.false) (sym c.agree.ensures ∙ c.if-agree-ne3.false) (body.ensures some)

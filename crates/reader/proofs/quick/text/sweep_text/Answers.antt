@@ -1,6 +1,5 @@
 -- `sweep_text`: the text runs to an RS, and each of its bytes is permitted.
 use mathlib.Core.Path.{sym, ◌∙◌}
-use borrow.Author.Tests.{not-false}
 use native.Mathlib.Omega.{arith}
 use Rattle.sweeps.proofs.EnvelopeSweeps.{text_notable, text_swept}
 use Rattle.reader.proofs.quick.text.sweep_text.Goals as goal
@@ -27,4 +26,4 @@ returns c = let args = c.args in
     let noted = c.note in
     let row = c.standing_at in
     λ some.
-    text_swept args.m.now pre.framed args.w.from args.at args.rows end.result pre.inside end.ensures c.if-m-end.false args.notes.now noted.new.notes row.result (sym c.all_in.ensures ∙ not-false _ c.if-not-all_in.false-raw) row.ensures pre.noted noted.ensures
+    text_swept args.m.now pre.framed args.w.from args.at args.rows end.result pre.inside end.ensures c.if-m-end.false args.notes.now noted.new.notes row.result (sym c.all_in.ensures ∙ c.if-not-all_in.false) row.ensures pre.noted noted.ensures
