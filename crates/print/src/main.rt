@@ -3,14 +3,15 @@
 #![tactic(auto)]
 
 use label::{Edition, LONGEST, TABLE};
-use libc::STDIN_FILENO;
+use std::io;
+use std::io::Read;
 
-const TOO_LONG: usize = LONGEST + 1;
+const TOO_LONG: u64 = LONGEST as u64 + 1;
 
-fn main() {
-    let mut message = [0u8; TOO_LONG];
-    let length = io::read_full(STDIN_FILENO, &mut message);
+fn main(rt: HostRuntime) -> io::Result<()> {
+    let mut message = Vec::new(rt.alloc());
+    rt.stdin().take(TOO_LONG).read_to_end(&mut message)?;
     let mut table = [0u32; TABLE];
-    let reading = reader::read(Edition::Edition2005, &message[..length], &mut table);
-    report::print_reading(reading, &table);
+    let reading = reader::read(Edition::Edition2005, &message, &mut table);
+    report::print_reading(&mut rt.stdout(), reading, &table)
 }

@@ -1,10 +1,6 @@
 -- A byte that is sought stands within the bytes, or is taken to stand at their end.
-use Prim.Native.Nat.{ℕ, suc, ◌≤◌}
-use mathlib.Core.Bool.{Bool, true, false, cond}
-use mathlib.Core.List.{[], ◌∷◌}
-use native.Mathlib.Omega.{arith}
-use lib.Dec.{eqb}
-use lib.ListN.{length}
+use Rattle.std.proofs.Common.{ℕ, ◌≤◌, suc, Bool, true, false, length, arith}
+use Rattle.std.specs.Prelude.{cond, eqb, [], ◌∷◌}
 use Rattle.label.specs.Bytes.{Bytes}
 use Rattle.leaves.specs.Seek.{seek}
 

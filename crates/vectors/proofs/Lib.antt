@@ -1,2 +1,2 @@
--- A law that the function proofs cite.
+-- A law that a function's proof cites.
 pub mod Bound

@@ -3,16 +3,18 @@
 // written.
 #![tactic(auto)]
 
+mod decimals;
 mod notation;
-mod numbers;
 mod reading;
 mod shown;
 mod split;
 mod writing;
 
 use label::Edition;
-use libc::STDOUT_FILENO;
 use split::first;
+use std::io::Write;
+use std::rt::Files;
+use std::{fs, io};
 
 // What the vectors of a file try.
 #[derive(Clone, Copy)]
@@ -22,58 +24,60 @@ enum Trial {
     Part,
 }
 
-fn main() {
-    io::write_all(STDOUT_FILENO, b"edition 2005\n");
-    run_files(Edition::Edition2005);
-    io::write_all(STDOUT_FILENO, b"edition 2025\n");
-    run_files(Edition::Edition2025);
+fn main(rt: HostRuntime) -> io::Result<()> {
+    println!(rt; "edition 2005")?;
+    run_files(&rt, Edition::Edition2005)?;
+    println!(rt; "edition 2025")?;
+    run_files(&rt, Edition::Edition2025)
 }
 
-fn run_files(edition: Edition) {
-    run_file(b"vectors.txt", Trial::Read, edition);
-    run_file(b"formats.txt", Trial::Read, edition);
-    run_file(b"writing.txt", Trial::Write, edition);
-    run_file(b"parts.txt", Trial::Part, edition);
+fn run_files(rt: &(impl Files + Alloc + Print + Eprint), edition: Edition) -> io::Result<()> {
+    run_file(rt, "vectors.txt", Trial::Read, edition)?;
+    run_file(rt, "formats.txt", Trial::Read, edition)?;
+    run_file(rt, "writing.txt", Trial::Write, edition)?;
+    run_file(rt, "parts.txt", Trial::Part, edition)
 }
 
-fn run_file(name: &[u8], trial: Trial, edition: Edition) {
-    let mut text = io::large_buffer();
-    let fd = os::open_read(name);
-    if fd < 0 {
-        os::fail(name);
-        return;
+// A file that can't be read is named on standard error, and the others are run.
+fn run_file(
+    rt: &(impl Files + Alloc + Print + Eprint),
+    name: &str,
+    trial: Trial,
+    edition: Edition,
+) -> io::Result<()> {
+    match fs::read(rt, name) {
+        Ok(text) => run_lines(&mut io::writer(rt), &text, trial, edition),
+        Err(error) => eprintln!(rt; "{name}: {error}"),
     }
-    let length = io::read_full(fd, &mut text);
-    libc::close(fd);
-    run_lines(&text[..length], trial, edition);
 }
 
-fn run_lines(text: &[u8], trial: Trial, edition: Edition) {
+fn run_lines<W: Write>(out: &mut W, text: &[u8], trial: Trial, edition: Edition) -> io::Result<()> {
     let mut from = 0;
     while from < text.len() {
         let end = first(text, from, b'\n');
-        run_line(&text[from..end], trial, edition);
+        run_line(out, &text[from..end], trial, edition)?;
         if end == text.len() {
-            return;
+            return Ok(());
         }
         from = end + 1;
     }
+    Ok(())
 }
 
 // Prints a vector's name and what comes of it; nothing for an empty line or a comment.
-fn run_line(line: &[u8], trial: Trial, edition: Edition) {
-    if line.len() == 0 {
-        return;
+fn run_line<W: Write>(out: &mut W, line: &[u8], trial: Trial, edition: Edition) -> io::Result<()> {
+    if line.is_empty() {
+        return Ok(());
     }
     if line[0] == b'#' {
-        return;
+        return Ok(());
     }
-    io::write_all(STDOUT_FILENO, split::word(line));
-    io::write_all(STDOUT_FILENO, b"\n");
+    out.write_all(split::word(line))?;
+    out.write_all(b"\n")?;
     let rest = split::rest(line);
     match trial {
-        Trial::Read => reading::run_message(edition, rest),
-        Trial::Write => writing::run_rows(edition, rest),
-        Trial::Part => reading::run_part(edition, rest),
+        Trial::Read => reading::run_message(out, edition, rest),
+        Trial::Write => writing::run_rows(out, edition, rest),
+        Trial::Part => reading::run_part(out, edition, rest),
     }
 }

@@ -1,7 +1,6 @@
 // How the vectors write a message: a byte stands for itself; `{GS}` is a control byte by its name, `{30*A}` a byte 30 times, and
 // `{30*GS}` a control byte 30 times.
-ghost use Rattle.std.specs.Prelude.{◌≤◌};
-ghost use Rattle.io.specs.Counts.{IsPrefixLen};
+ghost use Rattle.std.specs.Prelude.{◌≤◌, length};
 
 // What has been read of the braces that are open, if any are: a count so far; a count; a count and a byte; a count and a
 // control byte's first letter.
@@ -23,17 +22,14 @@ struct Run {
 
 // Puts the message that a text writes into a buffer, as far as it has room, and answers the message's length.
 pub(crate) fn expand(text: &[u8], message: &mut [u8]) -> usize
-    ensures { IsPrefixLen result message.new }
+    ensures { result ≤ length message.new }
 {
     let mut length = 0;
     let mut pen = Pen::Outside;
-    let mut i = 0;
-    while i < text.len() {
-        let b = text[i];
-        let run = run_at(pen, b);
+    for b in text {
+        let run = run_at(pen, *b);
         length = put_run(run, message, length);
-        pen = next(pen, b);
-        i += 1;
+        pen = next(pen, *b);
     }
     within(length, message)
 }
@@ -137,16 +133,14 @@ fn control(first: u8) -> u8 {
 // Writes a run into a buffer from an index on, and answers the index behind it.
 fn put_run(run: Run, message: &mut [u8], from: usize) -> usize {
     let mut at = from;
-    let mut i = 0;
-    while i < run.times {
+    for _ in 0..run.times {
         at = report::put(run.byte, message, at);
-        i += 1;
     }
     at
 }
 
 pub(crate) fn within(n: usize, message: &[u8]) -> usize
-    ensures { IsPrefixLen result message.now }
+    ensures { result ≤ length message.now }
 {
     if n < message.len() { n } else { message.len() }
 }

@@ -1,40 +1,42 @@
 // The vectors of the reader: a message's reading, and the part that a row names.
-use crate::{notation, numbers, shown, split};
+use crate::{decimals, notation, shown, split};
 use label::{Edition, Reading, TABLE};
+use std::io;
+use std::io::Write;
 
 // Of a message that has more rows only the first and the last are printed.
 const MANY: usize = 100;
 
 // Prints the reading of a message.
-pub(crate) fn run_message(edition: Edition, text: &[u8]) {
+pub(crate) fn run_message<W: Write>(out: &mut W, edition: Edition, text: &[u8]) -> io::Result<()> {
     let mut message = [0u8; 4200];
     let length = notation::expand(text, &mut message);
     let mut table = [0u32; TABLE];
     let reading = reader::read(edition, &message[..length], &mut table);
-    print(reading, &table);
+    print(out, reading, &table)
 }
 
-fn print(reading: Reading, table: &[u32]) {
+fn print<W: Write>(out: &mut W, reading: Reading, table: &[u32]) -> io::Result<()> {
     match reading {
         Reading::Accepted(counts) => {
             let rows = counts.rows;
             if rows > MANY {
-                report::print_answer(reading);
-                report::print_row(table, 0);
-                report::print_row(table, rows - 1);
+                report::print_answer(out, reading)?;
+                report::print_row(out, table, 0)?;
+                report::print_row(out, table, rows - 1)
             } else {
-                report::print_reading(reading, table);
+                report::print_reading(out, reading, table)
             }
         }
-        Reading::Refused(_) => report::print_answer(reading),
+        Reading::Refused(_) => report::print_answer(out, reading),
     }
 }
 
 // Prints the part of a message that a row names.
-pub(crate) fn run_part(edition: Edition, text: &[u8]) {
-    let row = numbers::number(split::word(text));
+pub(crate) fn run_part<W: Write>(out: &mut W, edition: Edition, text: &[u8]) -> io::Result<()> {
+    let row = decimals::number(split::word(text));
     let mut message = [0u8; 4200];
     let length = notation::expand(split::rest(text), &mut message);
     let part = reader::part(edition, &message[..length], row);
-    shown::print_part(part);
+    shown::print_part(out, part)
 }

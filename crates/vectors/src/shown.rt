@@ -1,29 +1,31 @@
 // Bytes printed in the notation of the vectors: ten or more of the same in a row as `{10*A}`.
 ghost use Rattle.std.specs.Prelude.{◌≤◌, ◌<◌, length};
 
-use libc::STDOUT_FILENO;
+use std::io;
+use std::io::Write;
 
 // The least number of equal bytes that are printed as a number and a byte.
 const LONG: usize = 10;
 
 // Prints how many bytes there are, the bytes behind a space if there are any, and a line end.
-pub(crate) fn print_part(bytes: &[u8]) {
-    io::print_decimal(STDOUT_FILENO, bytes.len() as u64);
-    if bytes.len() > 0 {
-        io::write_all(STDOUT_FILENO, b" ");
+pub(crate) fn print_part<W: Write>(out: &mut W, bytes: &[u8]) -> io::Result<()> {
+    let length = bytes.len();
+    write!(out, "{length}")?;
+    if length > 0 {
+        out.write_all(b" ")?;
     }
-    print_bytes(bytes);
+    print_bytes(out, bytes)
 }
 
 // Prints bytes and a line end.
-pub(crate) fn print_bytes(bytes: &[u8]) {
+pub(crate) fn print_bytes<W: Write>(out: &mut W, bytes: &[u8]) -> io::Result<()> {
     let mut at = 0;
     while at < bytes.len() {
         let end = run_end(bytes, at);
-        print_run(bytes[at], end - at);
+        print_run(out, bytes[at], end - at)?;
         at = end;
     }
-    io::write_all(STDOUT_FILENO, b"\n");
+    out.write_all(b"\n")
 }
 
 // The index behind the bytes that are equal to the one at an index and follow it without a gap.
@@ -32,44 +34,37 @@ fn run_end(bytes: &[u8], at: usize) -> usize
     ensures lower_bound { at < result }
     ensures upper_bound { result ≤ length bytes.now }
 {
-    let mut end = at + 1;
-    while end < bytes.len() {
+    for end in at + 1..bytes.len() {
         if bytes[end] != bytes[at] {
             return end;
         }
-        end += 1;
     }
-    end
+    bytes.len()
 }
 
-fn print_run(b: u8, times: usize) {
+fn print_run<W: Write>(out: &mut W, b: u8, times: usize) -> io::Result<()> {
     if times < LONG {
-        print_each(b, times);
-        return;
+        return print_each(out, b, times);
     }
-    io::write_all(STDOUT_FILENO, b"{");
-    io::print_decimal(STDOUT_FILENO, times as u64);
-    io::write_all(STDOUT_FILENO, b"*");
-    print_name(b);
-    io::write_all(STDOUT_FILENO, b"}");
+    write!(out, "{{{times}*")?;
+    print_name(out, b)?;
+    out.write_all(b"}")
 }
 
-fn print_each(b: u8, times: usize) {
-    let mut i = 0;
-    while i < times {
-        print_byte(b);
-        i += 1;
+fn print_each<W: Write>(out: &mut W, b: u8, times: usize) -> io::Result<()> {
+    for _ in 0..times {
+        print_byte(out, b)?;
     }
+    Ok(())
 }
 
-fn print_byte(b: u8) {
-    if is_control(b) {
-        io::write_all(STDOUT_FILENO, b"{");
-        print_name(b);
-        io::write_all(STDOUT_FILENO, b"}");
-    } else {
-        print_name(b);
+fn print_byte<W: Write>(out: &mut W, b: u8) -> io::Result<()> {
+    if !is_control(b) {
+        return print_name(out, b);
     }
+    out.write_all(b"{")?;
+    print_name(out, b)?;
+    out.write_all(b"}")
 }
 
 fn is_control(b: u8) -> bool {
@@ -81,22 +76,19 @@ fn is_control(b: u8) -> bool {
 }
 
 // Prints a control byte by its name, another as it is.
-fn print_name(b: u8) {
+fn print_name<W: Write>(out: &mut W, b: u8) -> io::Result<()> {
     if is_control(b) {
-        print_control(b);
+        print_control(out, b)
     } else {
-        let one = [b];
-        io::write_all(STDOUT_FILENO, &one);
+        out.write_all(&[b])
     }
 }
 
-fn print_control(b: u8) {
+fn print_control<W: Write>(out: &mut W, b: u8) -> io::Result<()> {
     if b == leaves::EOT {
-        io::write_all(STDOUT_FILENO, b"EOT");
-        return;
+        return out.write_all(b"EOT");
     }
-    let name = [separated(b), b'S'];
-    io::write_all(STDOUT_FILENO, &name);
+    out.write_all(&[separated(b), b'S'])
 }
 
 // What a separator is for, by its first letter: files, groups, records, units.

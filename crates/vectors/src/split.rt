@@ -1,12 +1,11 @@
 // A text taken apart at a byte.
 ghost use Rattle.std.specs.Prelude.{◌≤◌, length};
-ghost use Rattle.io.specs.Counts.{IsPrefixLen};
 
 // The index of the first c at or after an index; the length where there is none.
 pub(crate) fn first(text: &[u8], from: usize, c: u8) -> usize
     requires { from ≤ length text.now }
     ensures lower_bound { from ≤ result }
-    ensures prefix_len { IsPrefixLen result text.now }
+    ensures prefix_len { result ≤ length text.now }
 {
     leaves::find(text, from, c)
 }

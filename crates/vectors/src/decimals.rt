@@ -1,6 +1,6 @@
 // Numbers in decimal, and rows: `1,6,4,2,0;3,6,7,3,0` is two rows, `3*5,3,0,0,0` a row three times, and `-` no number at all. A row may
 // have more or fewer numbers than five.
-ghost use Rattle.io.specs.Counts.{IsPrefixLen};
+ghost use Rattle.std.specs.Prelude.{◌≤◌, length};
 
 use crate::split::first;
 
@@ -15,10 +15,8 @@ const LARGEST_IN_ROW: u32 = 4294967295;
 // The number that a text's digits write; one that is too large is taken as the largest. What isn't a digit is passed over.
 pub(crate) fn number(text: &[u8]) -> usize {
     let mut n = 0;
-    let mut i = 0;
-    while i < text.len() {
-        n = with_digit(n, text[i]);
-        i += 1;
+    for b in text {
+        n = with_digit(n, *b);
     }
     n
 }
@@ -47,7 +45,7 @@ fn narrow(n: usize) -> u32 {
 
 // Puts the numbers of rows into a table, as far as it has room, and answers how many they are.
 pub(crate) fn put_rows(text: &[u8], table: &mut [u32]) -> usize
-    ensures { IsPrefixLen result table.new }
+    ensures { result ≤ length table.new }
 {
     let count = put_each(text, table);
     within(count, table)
@@ -79,10 +77,8 @@ fn put_row(text: &[u8], table: &mut [u32], from: usize) -> usize {
 
 fn put_times(times: usize, text: &[u8], table: &mut [u32], from: usize) -> usize {
     let mut at = from;
-    let mut i = 0;
-    while i < times {
+    for _ in 0..times {
         at = put_numbers(text, table, at);
-        i += 1;
     }
     at
 }
@@ -123,7 +119,7 @@ fn is_none(text: &[u8]) -> bool {
 }
 
 fn within(n: usize, table: &[u32]) -> usize
-    ensures { IsPrefixLen result table.now }
+    ensures { result ≤ length table.now }
 {
     if n < table.len() { n } else { table.len() }
 }
