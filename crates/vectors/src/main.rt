@@ -16,6 +16,9 @@ use std::io::Write;
 use std::rt::Files;
 use std::{fs, io};
 
+// How much of a file is run at most; what lies behind is left.
+const LONGEST_FILE: usize = 65_536;
+
 // What the vectors of a file try.
 #[derive(Clone, Copy)]
 enum Trial {
@@ -46,7 +49,10 @@ fn run_file(
     edition: Edition,
 ) -> io::Result<()> {
     match fs::read(rt, name) {
-        Ok(text) => run_lines(&mut io::writer(rt), &text, trial, edition),
+        Ok(text) => {
+            let end = text.len().min(LONGEST_FILE);
+            run_lines(&mut io::writer(rt), &text[..end], trial, edition)
+        }
         Err(error) => eprintln!(rt; "{name}: {error}"),
     }
 }
