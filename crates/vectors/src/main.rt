@@ -3,6 +3,8 @@
 // written.
 #![tactic(auto)]
 
+ghost use Rattle.std.specs.Prelude.{◌≤◌, length, IfOk};
+
 mod decimals;
 mod notation;
 mod reading;
@@ -12,7 +14,7 @@ mod writing;
 
 use label::Edition;
 use split::first;
-use std::io::Write;
+use std::io::{Read, Write};
 use std::rt::Files;
 use std::{fs, io};
 
@@ -34,27 +36,43 @@ fn main(rt: HostRuntime) -> io::Result<()> {
     run_files(&rt, Edition::Edition2025)
 }
 
-fn run_files(rt: &(impl Files + Alloc + Print + Eprint), edition: Edition) -> io::Result<()> {
+fn run_files(rt: &(impl Files + Print + Eprint), edition: Edition) -> io::Result<()> {
     run_file(rt, "vectors.txt", Trial::Read, edition)?;
     run_file(rt, "formats.txt", Trial::Read, edition)?;
     run_file(rt, "writing.txt", Trial::Write, edition)?;
     run_file(rt, "parts.txt", Trial::Part, edition)
 }
 
-// A file that can't be read is named on standard error, and the others are run.
+// A file that can't be opened is named on standard error, and the others are run.
 fn run_file(
-    rt: &(impl Files + Alloc + Print + Eprint),
+    rt: &(impl Files + Print + Eprint),
     name: &str,
     trial: Trial,
     edition: Edition,
 ) -> io::Result<()> {
-    match fs::read(rt, name) {
-        Ok(text) => {
-            let end = text.len().min(LONGEST_FILE);
-            run_lines(&mut io::writer(rt), &text[..end], trial, edition)
+    match fs::open(rt, name) {
+        Ok(mut file) => {
+            let mut text = [0u8; LONGEST_FILE];
+            let length = read_full(&mut file, &mut text)?;
+            run_lines(&mut io::writer(rt), &text[..length], trial, edition)
         }
         Err(error) => eprintln!(rt; "{name}: {error}"),
     }
+}
+
+// Reads until the buffer is full or the file ends, and answers how many bytes were read.
+fn read_full<R: Read>(file: &mut R, buffer: &mut [u8]) -> io::Result<usize>
+    ensures { IfOk result (λ n. n ≤ length buffer.new) }
+{
+    let mut filled = 0;
+    while filled < buffer.len() {
+        let count = file.read(&mut buffer[filled..])?;
+        if count == 0 {
+            return Ok(filled);
+        }
+        filled += count;
+    }
+    Ok(filled)
 }
 
 fn run_lines<W: Write>(out: &mut W, text: &[u8], trial: Trial, edition: Edition) -> io::Result<()> {
