@@ -1,5 +1,5 @@
 -- The promises about reading, each with its name and sentence; the work is done where the proof says. They hold for every edition and every list of
--- bytes. What a reader must believe for them is Good (specs/Message), reading (specs/ReadMessage), readAnswer and tableAfter (specs/Answer), PlaceFor
+-- bytes. What a reader must believe for them is Good (specs/Message), reading (specs/ReadMessage), read_answer and table_after (specs/Answer), PlaceFor
 -- (specs/Place, with specs/Lacking), part_of (specs/Part), and the names in specs/Promised.
 use Prim.Native.Nat.{ℕ, ◌≤◌, ◌<◌}
 use mathlib.Core.Path.{◌≡◌, sym, ◌∙◌, subst}

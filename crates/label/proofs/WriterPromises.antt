@@ -1,6 +1,6 @@
 -- The promises about writing, each with its name and sentence; the work is done where the proof says. They hold for every edition, data, row numbers and
--- room. What a reader must believe for them is Good (specs/Message), what rows name and have (items_in, ordinalsIn, rowsStand: specs/Writing), tableAfter (specs/Answer), and
--- writing, writeAnswer and outputAfter (specs/Writing). That writing renders and reads back is how it is defined, and need not be believed: the promises
+-- room. What a reader must believe for them is Good (specs/Message), what rows name and have (items_in, ordinals_in, rows_stand: specs/Writing), table_after (specs/Answer), and
+-- writing, write_answer and output_after (specs/Writing). That writing renders and reads back is how it is defined, and need not be believed: the promises
 -- say which message it comes to, for all inputs.
 use Prim.Native.Nat.{ℕ, ◌*◌, ◌≤◌, ◌<◌}
 use mathlib.Core.Path.{◌≡◌, sym, ap, ◌∙◌}
@@ -91,7 +91,7 @@ module _ (edition : Edition) where
         → (room : ℕ) → room < length m → writing edition held ns room ≡ declined NoOutputRoom
     if_longer m es stand good items ordinals room short = lacks_room edition held ns m stand (record { envelopes = es; good = good; items = items; ordinals = ordinals }) room short
 
-    -- and it is written exactly where the rows stand and it is not longer; that it is good, and with these items and ordinals, is read-back
+    -- and it is written exactly where the rows stand and it is not longer; that it is good, and with these items and ordinals, is read_back
     pub only_if_fits : (room : ℕ) (w : Bytes) → writing edition held ns room ≡ written w → (rows_stand held ns ≡ true) × (length w ≤ room)
     only_if_fits room w says = let so = tells edition held ns room (written w) says in (so.0, so.1)
 
