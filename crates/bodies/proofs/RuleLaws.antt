@@ -10,7 +10,7 @@ use lib.Dec.{eqb, leb, ltb, eqb-suc-suc}
 use Rattle.label.specs.Bytes.{Bytes, FS, GS, US, digit, capital, capital_or_digit, every, is_empty}
 use Rattle.label.specs.Limits.{long_as}
 use Rattle.label.specs.Pieces.{piece_with, pieces, last_is_empty, without_last}
-use Rattle.label.specs.Values.{Version}
+use Rattle.label.specs.declared.Version.{Version}
 use Rattle.label.specs.Segments.{Segment, Element, tag, tag03, tagged}
 use Rattle.label.specs.Fields.{least_fields, most_fields, field, fields_from, transport}
 use Rattle.label.specs.ReadEnvelope.{segments_in, are_segments}

@@ -2,7 +2,7 @@
 use Rattle.std.specs.Prelude.{ℕ, ◌+◌, ◌-◌, Bool, true, not, ◌&&◌, ◌||◌, List, [], ◌∷◌, length, take, leb, ltb, eqb}
 use Rattle.label.specs.Bytes.{Bytes, FS, GS, US, every}
 use Rattle.label.specs.Pieces.{pieces, last_is_empty}
-use Rattle.label.specs.Values.{version02, version96}
+use Rattle.label.specs.declared.Version.TheVariants.{Version02, Version96}
 use Rattle.label.specs.Elements.{element05, element06, element12}
 use Rattle.label.specs.Segments.{tag, tag03}
 use Rattle.label.specs.Fields.{least_fields, transport}
@@ -23,8 +23,8 @@ permitted_of Text = text_byte
 permitted_of Elements12 = plain_or_gs
 
 abbrev pub rules_of : Kind → Bytes → Bool
-rules_of Fields02 body = transport version02 (pieces GS body)
-rules_of Fields96 body = transport version96 (pieces GS body)
+rules_of Fields02 body = transport Version02 (pieces GS body)
+rules_of Fields96 body = transport Version96 (pieces GS body)
 rules_of Segments03 body = are_segments tag03 body
 rules_of Segments04 body = are_segments tag body
 rules_of Elements05 body = every element05 (pieces GS body)

@@ -5,7 +5,8 @@ use mathlib.Core.List.{List, [], ◌∷◌}
 use Rattle.label.specs.declared.Edition.{Edition}
 use Rattle.label.specs.declared.Edition.TheVariants.{Edition2025}
 use Rattle.label.specs.Bytes.{ascii, EOT, GS, RS}
-use Rattle.label.specs.Values.{version02, version96, type_length, compression_length}
+use Rattle.label.specs.Values.{type_length, compression_length}
+use Rattle.label.specs.declared.Version.TheVariants.{Version02, Version96}
 use Rattle.label.specs.Segments.{Segment, tag, tag03}
 use Rattle.label.specs.Elements.{element05, element06, element12}
 use Rattle.label.specs.Formats.{rest_byte, text_byte}
@@ -16,23 +17,23 @@ use Rattle.cases.proofs.Cases.{◌and◌, good}
 
 -- 01: the five fields that must be there, the postal code empty, as version 02 allows
 abbrev least_transport : Envelope
-least_transport = fields 1 version02 ([] ∷ ascii "840" ∷ ascii "1" ∷ ascii "1Z" ∷ ascii "UPSN" ∷ [])
+least_transport = fields 1 Version02 ([] ∷ ascii "840" ∷ ascii "1" ∷ ascii "1Z" ∷ ascii "UPSN" ∷ [])
 
 -- 01: all fifteen fields of version 02, one left out in between
 abbrev most_transport02 : Envelope
 most_transport02 =
-    fields 1 version02
+    fields 1 Version02
     (ascii "841706672" ∷ ascii "840" ∷ ascii "001" ∷ ascii "1Z12345675" ∷ ascii "UPSN" ∷ ascii "12345E" ∷ ascii "089" ∷ [] ∷ ascii "1/1" ∷ ascii "12.5LB"
     ∷ ascii "Y" ∷ ascii "STREET" ∷ ascii "CITY" ∷ ascii "UT" ∷ ascii "NAME" ∷ [])
 
 -- 01: a weight in the other unit, as the last field
 abbrev kilograms : Envelope
-kilograms = fields 1 version02 ([] ∷ ascii "840" ∷ ascii "1" ∷ ascii "1Z" ∷ ascii "UPSN" ∷ [] ∷ [] ∷ [] ∷ [] ∷ ascii "5KG" ∷ [])
+kilograms = fields 1 Version02 ([] ∷ ascii "840" ∷ ascii "1" ∷ ascii "1Z" ∷ ascii "UPSN" ∷ [] ∷ [] ∷ [] ∷ [] ∷ ascii "5KG" ∷ [])
 
 -- 01: all fourteen fields of version 96
 abbrev most_transport96 : Envelope
 most_transport96 =
-    fields 1 version96
+    fields 1 Version96
     (ascii "841" ∷ ascii "840" ∷ ascii "001" ∷ ascii "1Z12345675" ∷ ascii "UPSN" ∷ ascii "12345E" ∷ ascii "089" ∷ ascii "7" ∷ ascii "1/1" ∷ ascii "10"
     ∷ ascii "N" ∷ ascii "STREET" ∷ ascii "CITY" ∷ ascii "UT" ∷ [])
 

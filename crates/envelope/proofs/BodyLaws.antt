@@ -15,15 +15,14 @@ use Rattle.pieces.specs.declared.Kind.TheVariants.{Fields02, Fields96, Segments0
 use Rattle.bodies.specs.Kinds.{permitted_of, rules_of, rows_of_body}
 use Rattle.bodies.proofs.RuleLaws.{rows_inside, tally_inside}
 use Rattle.faults.specs.PieceFaults.{fault_of}
-use Rattle.envelope.specs.declared.Found.{Found}
-use Rattle.envelope.specs.declared.Found.TheVariants.{Closed, Refused}
+use Rattle.envelope.specs.Judged.{Judged, closed_at, no_envelope}
 use Rattle.envelope.specs.Bodies.{fault_found, body_found}
 
 module _ (k : Kind) (before : ℕ) (m : Bytes) (at end : ℕ) (inside : at ≤ length m) (is : end ≡ at + seek RS (drop at m)) where
   abbrev n : ℕ
   n = seek RS (drop at m)
 
-  pub body_none : length m ≤ end → Refused NoRecordSeparator ≡ body_found k before m at
+  pub body_none : length m ≤ end → no_envelope NoRecordSeparator ≡ body_found k before m at
   unfolding body_found
   body_none past =
       let long = length-drop at m in
@@ -31,12 +30,12 @@ module _ (k : Kind) (before : ℕ) (m : Bytes) (at end : ℕ) (inside : at ≤ l
       sym (cond_no (ltb n (length (drop at m))) _ _ (le-ltb n (length (drop at m)) none_left))
 
   -- with an RS, by the bytes before it
-  judged : Bytes → Found
+  judged : Bytes → Judged
   judged body =
       cond (every (permitted_of k) body)
-      (cond (rules_of k body) (Closed (end + 1) (before + rows_of_body k body))
+      (cond (rules_of k body) (closed_at (end + 1) (before + rows_of_body k body))
       (fault_found at (fault_of k body)))
-      (Refused ByteNotPermitted)
+      (no_envelope ByteNotPermitted)
 
   body_some : end < length m → judged (take (end - at) (drop at m)) ≡ body_found k before m at
   unfolding body_found judged
@@ -45,12 +44,12 @@ module _ (k : Kind) (before : ℕ) (m : Bytes) (at end : ℕ) (inside : at ≤ l
       let first : end - at ≡ n = omega arith in
       let here : n < length (drop at m) = omega arith in
       (λ i. cond (every (permitted_of k) (take (first i) (drop at m)))
-      (cond (rules_of k (take (first i) (drop at m))) (Closed (is i + 1) (before + rows_of_body k (take (first i) (drop at m))))
+      (cond (rules_of k (take (first i) (drop at m))) (closed_at (is i + 1) (before + rows_of_body k (take (first i) (drop at m))))
       (fault_found at (fault_of k (take (first i) (drop at m)))))
-      (Refused ByteNotPermitted))
+      (no_envelope ByteNotPermitted))
       ∙ sym (cond_yes (ltb n (length (drop at m))) _ _ (lt-ltb n (length (drop at m)) here))
 
-  pub body_byte : end < length m → every (permitted_of k) (take (end - at) (drop at m)) ≡ false → Refused ByteNotPermitted ≡ body_found k before m at
+  pub body_byte : end < length m → every (permitted_of k) (take (end - at) (drop at m)) ≡ false → no_envelope ByteNotPermitted ≡ body_found k before m at
   unfolding judged
   body_byte some not_permitted = sym (cond_no (every (permitted_of k) (take (end - at) (drop at m))) _ _ not_permitted) ∙ body_some some
 
@@ -61,7 +60,7 @@ module _ (k : Kind) (before : ℕ) (m : Bytes) (at end : ℕ) (inside : at ≤ l
       sym (cond_yes (every (permitted_of k) (take (end - at) (drop at m))) _ _ permitted ∙ cond_no (rules_of k (take (end - at) (drop at m))) _ _ broken) ∙ body_some some
 
   pub body_closed : end < length m → every (permitted_of k) (take (end - at) (drop at m)) ≡ true → rules_of k (take (end - at) (drop at m)) ≡ true
-      → Closed (end + 1) (before + rows_of_body k (take (end - at) (drop at m))) ≡ body_found k before m at
+      → closed_at (end + 1) (before + rows_of_body k (take (end - at) (drop at m))) ≡ body_found k before m at
   unfolding judged
   body_closed some permitted kept =
       sym (cond_yes (every (permitted_of k) (take (end - at) (drop at m))) _ _ permitted ∙ cond_yes (rules_of k (take (end - at) (drop at m))) _ _ kept) ∙ body_some some

@@ -1,8 +1,8 @@
 -- What reading each format behind its indicator shows is what is found of it by offsets.
+use Rattle.std.specs.Prelude.{None, Some, Option}
 use Prim.Native.Nat.{ℕ, suc, ◌+◌, ◌-◌, ◌≤◌, ◌<◌}
 use mathlib.Core.Path.{◌≡◌, refl, sym, ap, ◌∙◌}
 use mathlib.Core.Bool.{Bool, true, false, not, ◌&&◌, cond}
-use mathlib.Core.Option.{Option, none, some}
 use mathlib.Core.List.{[], ◌∷◌, ◌++◌, List}
 use native.Mathlib.Omega.{arith}
 use borrow.Author.Tests.{le-leb, lt-leb, ltb-true, ltb-false, lt-ltb, le-ltb, eqb-true, eqb-false}
@@ -14,11 +14,11 @@ use Rattle.label.specs.declared.Reason.{Reason}
 use Rattle.label.specs.declared.Reason.TheVariants.{BadFormatHeader, PayloadDoesNotFit, ByteNotPermitted, BodyBreaksRules, NoRecordSeparator}
 use Rattle.label.specs.Bytes.{Bytes, ascii, FS, GS, RS, US, plain, digit, capital_or_digit, every, is_empty}
 use Rattle.label.specs.Limits.{long_as, ◌to◌}
-use Rattle.label.specs.declared.BodyFault.{BodyFault}
-use Rattle.label.specs.declared.BodyFault.TheVariants.{InPiece, OfWhole}
 use Rattle.label.specs.Pieces.{pieces, last_is_empty, Cut, cut}
-use Rattle.label.specs.Values.{Version, version02, version96, version_digits, release_length, release, type_length, compression_length, header_value, count, value}
-use Rattle.label.specs.Faults.{elements_fault, whole_fault}
+use Rattle.label.specs.Values.{version_digits, release_length, release, type_length, compression_length, header_value, count, value}
+use Rattle.label.specs.declared.Version.{Version}
+use Rattle.label.specs.declared.Version.TheVariants.{Version02, Version96}
+use Rattle.label.specs.Faults.{elements_fault, whole_fault, in_piece}
 use Rattle.label.specs.Segments.{tagged}
 use Rattle.label.specs.Formats.{rule_of, rest_byte, text_byte}
 use Rattle.label.specs.Envelope.{Envelope, fields, whole_rest, segments, elements, text, counted}
@@ -40,17 +40,17 @@ use Rattle.bodies.proofs.RuleLaws.{pieces_count}
 use Rattle.bodies.proofs.PieceLaws.{leb_same}
 use Rattle.faults.specs.PieceFaults.{fault_of}
 use Rattle.faults.proofs.FaultLaws.{fault_inside}
-use Rattle.envelope.specs.declared.Found.{Found}
-use Rattle.envelope.specs.declared.Found.TheVariants.{Closed, Refused, RefusedAt}
+use Rattle.envelope.specs.Judged.{Judged, closed_at, no_envelope, no_envelope_at}
 use Rattle.envelope.specs.Shown.{row_count, shown}
 use Rattle.envelope.specs.Bodies.{fault_found, body_found}
 use Rattle.envelope.specs.Headers.{value_end}
 use Rattle.envelope.specs.Formats.{begins_at, transport_found, rest_found, segments_found, elements_found, payload_found, after_value, count_found, count_only_found, compression_found, counted_found}
 use Rattle.envelope.proofs.ValueLaws.{begins_long}
 use Rattle.envelope.proofs.RowCounts.{items_pieces, rows_segments, items_append, items_values}
+use Rattle.label.specs.declared.Refusal.{Refusal}
 
 -- what a refusal unless a test holds shows
-shown_must : (m : Bytes) (t : Bool) (r : Reason) (s : Step) → shown m (must t r s) ≡ cond t (shown m s) (Refused r)
+shown_must : (m : Bytes) (t : Bool) (r : Reason) (s : Step) → shown m (must t r s) ≡ cond t (shown m s) (no_envelope r)
 shown_must m true r s = refl
 shown_must m false r s = refl
 
@@ -59,22 +59,22 @@ shown_must m false r s = refl
 module _ (k : Kind) (before : ℕ) (m : Bytes) (at : ℕ) (made : Bytes → Envelope) (inside : at ≤ length m)
     (counts : (body : Bytes) → rules_of k body ≡ true → row_count (made body) ≡ before + rows_of_body k body) where
   -- a body that breaks its rules
-  shown_broken : (fault : BodyFault) → ((r : Reason) (n : ℕ) → fault ≡ InPiece r n → n ≤ length (drop at m)) → shown m (broken (drop at m) fault) ≡ fault_found at fault
-  shown_broken (InPiece r n) fits =
-      let least = fits r n refl in
-      let place : length m - length (drop n (drop at m)) ≡ at + n = omega (arith, length-drop n (drop at m), length-drop at m) in
-      ap (RefusedAt r) place
-  shown_broken OfWhole fits = refl
+  shown_broken : (fault : Option Refusal) → ((r : Reason) (n : ℕ) → fault ≡ in_piece r n → n ≤ length (drop at m)) → shown m (broken (drop at m) fault) ≡ fault_found at fault
+  shown_broken (Some fault) fits =
+      let least = fits fault.reason fault.place refl in
+      let place : length m - length (drop fault.place (drop at m)) ≡ at + fault.place = omega (arith, length-drop fault.place (drop at m), length-drop at m) in
+      ap (no_envelope_at fault.reason) place
+  shown_broken None fits = refl
 
   judged_body : (body left : Bytes) (end : ℕ) → length m - length left ≡ end → length body ≤ length (drop at m)
       → shown m (must (every (permitted_of k) body) ByteNotPermitted (cond (rules_of k body) (closed (made body) left) (broken (drop at m) (fault_of k body))))
-      ≡ cond (every (permitted_of k) body) (cond (rules_of k body) (Closed end (before + rows_of_body k body)) (fault_found at (fault_of k body))) (Refused ByteNotPermitted)
+      ≡ cond (every (permitted_of k) body) (cond (rules_of k body) (closed_at end (before + rows_of_body k body)) (fault_found at (fault_of k body))) (no_envelope ByteNotPermitted)
   judged_body body left end is fits = by (every (permitted_of k) body) (rules_of k body) refl
     where
       by : (s t : Bool) → rules_of k body ≡ t
           → shown m (must s ByteNotPermitted (cond t (closed (made body) left) (broken (drop at m) (fault_of k body))))
-          ≡ cond s (cond t (Closed end (before + rows_of_body k body)) (fault_found at (fault_of k body))) (Refused ByteNotPermitted)
-      by true true h = λ i. Closed (is i) (counts body h i)
+          ≡ cond s (cond t (closed_at end (before + rows_of_body k body)) (fault_found at (fault_of k body))) (no_envelope ByteNotPermitted)
+      by true true h = λ i. closed_at (is i) (counts body h i)
       by true false h = shown_broken (fault_of k body) (λ r n found. let least = fault_inside k body r n found in omega arith)
       by false t h = refl
 
@@ -92,7 +92,7 @@ module _ (k : Kind) (before : ℕ) (m : Bytes) (at : ℕ) (made : Bytes → Enve
       step = body_at (permitted_of k) (rules_of k) (λ body. broken bs (fault_of k body)) made
 
       by : (t : Bool) → ltb n (length bs) ≡ t → shown m (step (cut RS bs))
-          ≡ cond t (cond (every (permitted_of k) (take n bs)) (cond (rules_of k (take n bs)) (Closed (at + n + 1) (before + rows_of_body k (take n bs))) (fault_found at (fault_of k (take n bs)))) (Refused ByteNotPermitted)) (Refused NoRecordSeparator)
+          ≡ cond t (cond (every (permitted_of k) (take n bs)) (cond (rules_of k (take n bs)) (closed_at (at + n + 1) (before + rows_of_body k (take n bs))) (fault_found at (fault_of k (take n bs)))) (no_envelope ByteNotPermitted)) (no_envelope NoRecordSeparator)
       by true here =
           let less = ltb-true n (length bs) here in
           let long = length-drop at m in
@@ -114,11 +114,11 @@ opened_by (h ∷ hs) [] next = sym (cond_no _ _ _ (eqb-zero-suc (length hs)))
 opened_by (h ∷ hs) (b ∷ bs) next = opened_with (eqb b h) hs bs next (opened_by hs bs next)
 
 -- a header that bytes begin with, and then what is found behind it
-shown_opened : (m hs : Bytes) (at : ℕ) (next : Bytes → Step) (there : Found) → at ≤ length m → (at + length hs ≤ length m → shown m (next (drop (at + length hs) m)) ≡ there)
-    → shown m (opened hs (drop at m) next) ≡ cond (begins_at hs m at) there (Refused BadFormatHeader)
+shown_opened : (m hs : Bytes) (at : ℕ) (next : Bytes → Step) (there : Judged) → at ≤ length m → (at + length hs ≤ length m → shown m (next (drop (at + length hs) m)) ≡ there)
+    → shown m (opened hs (drop at m) next) ≡ cond (begins_at hs m at) there (no_envelope BadFormatHeader)
 shown_opened m hs at next there inside then = ap (shown m) (opened_by hs (drop at m) next) ∙ by (begins_at hs m at) refl
   where
-    by : (t : Bool) → begins_at hs m at ≡ t → shown m (cond t (next (drop (length hs) (drop at m))) (refuse BadFormatHeader)) ≡ cond t there (Refused BadFormatHeader)
+    by : (t : Bool) → begins_at hs m at ≡ t → shown m (cond t (next (drop (length hs) (drop at m))) (refuse BadFormatHeader)) ≡ cond t there (no_envelope BadFormatHeader)
     by true is = ap (λ l. shown m (next l)) (drop-drop (length hs) at m) ∙ then (begins_long hs m at inside (eqb-true _ _ is))
     by false is = refl
 
@@ -156,7 +156,7 @@ pub shown_rest : (f : ℕ) (m : Bytes) (at : ℕ) → shown m (read_rest rest_by
 unfolding read_rest parts
 shown_rest f m at =
     shown_must m (not (is_empty (drop at m))) _ _
-    ∙ (λ i. cond (not_empty m at i) (shown_must m (every rest_byte (drop at m)) ByteNotPermitted (whole (whole_rest f (drop at m))) i) (Refused BodyBreaksRules))
+    ∙ (λ i. cond (not_empty m at i) (shown_must m (every rest_byte (drop at m)) ByteNotPermitted (whole (whole_rest f (drop at m))) i) (no_envelope BodyBreaksRules))
 
 -- 03, 04
 
@@ -183,21 +183,21 @@ six_there bs = by (ltb (length bs) release_length) refl
         let six = length-take-le release_length bs more in
         (λ i. le-leb release_length (length (take release_length bs)) (omega arith) i && le-leb (length (take release_length bs)) release_length (omega arith) i && every capital_or_digit (take release_length bs))
 
-shown_six : (m : Bytes) (at : ℕ) (next : Bytes → Step) (there : Found) → at ≤ length m → (at + release_length + 3 ≤ length m → shown m (next (drop (at + release_length + 3) m)) ≡ there)
+shown_six : (m : Bytes) (at : ℕ) (next : Bytes → Step) (there : Judged) → at ≤ length m → (at + release_length + 3 ≤ length m → shown m (next (drop (at + release_length + 3) m)) ≡ there)
     → shown m (must (release (take release_length (drop at m))) BadFormatHeader (opened (FS ∷ GS ∷ US ∷ []) (drop release_length (drop at m)) next))
-    ≡ cond (not (ltb (length m) (at + release_length)) && every capital_or_digit (take release_length (drop at m)) && begins_at (FS ∷ GS ∷ US ∷ []) m (at + release_length)) there (Refused BadFormatHeader)
+    ≡ cond (not (ltb (length m) (at + release_length)) && every capital_or_digit (take release_length (drop at m)) && begins_at (FS ∷ GS ∷ US ∷ []) m (at + release_length)) there (no_envelope BadFormatHeader)
 shown_six m at next there inside then =
     shown_must m (release (take release_length (drop at m))) BadFormatHeader _
-    ∙ ap (λ t. cond t (shown m (opened (FS ∷ GS ∷ US ∷ []) (drop release_length (drop at m)) next)) (Refused BadFormatHeader)) (six_there (drop at m))
-    ∙ ap (λ t. cond (not t && every capital_or_digit (take release_length (drop at m))) (shown m (opened (FS ∷ GS ∷ US ∷ []) (drop release_length (drop at m)) next)) (Refused BadFormatHeader)) same_length
+    ∙ ap (λ t. cond t (shown m (opened (FS ∷ GS ∷ US ∷ []) (drop release_length (drop at m)) next)) (no_envelope BadFormatHeader)) (six_there (drop at m))
+    ∙ ap (λ t. cond (not t && every capital_or_digit (take release_length (drop at m))) (shown m (opened (FS ∷ GS ∷ US ∷ []) (drop release_length (drop at m)) next)) (no_envelope BadFormatHeader)) same_length
     ∙ by (ltb (length m) (at + release_length)) (every capital_or_digit (take release_length (drop at m))) refl
   where
     same_length : ltb (length (drop at m)) release_length ≡ ltb (length m) (at + release_length)
     same_length = let long = length-drop at m in leb_same (suc (length (drop at m))) release_length (suc (length m)) (at + release_length) (λ h. omega arith) (λ h. omega arith)
 
     by : (t u : Bool) → ltb (length m) (at + release_length) ≡ t
-        → cond (not t && u) (shown m (opened (FS ∷ GS ∷ US ∷ []) (drop release_length (drop at m)) next)) (Refused BadFormatHeader)
-        ≡ cond (not t && u && begins_at (FS ∷ GS ∷ US ∷ []) m (at + release_length)) there (Refused BadFormatHeader)
+        → cond (not t && u) (shown m (opened (FS ∷ GS ∷ US ∷ []) (drop release_length (drop at m)) next)) (no_envelope BadFormatHeader)
+        ≡ cond (not t && u && begins_at (FS ∷ GS ∷ US ∷ []) m (at + release_length)) there (no_envelope BadFormatHeader)
     by true u short = refl
     by false false enough = refl
     by false true enough =
@@ -223,10 +223,10 @@ unfolding parts
 field_rows f v body = omega (arith, items_pieces GS piece_row f (pieces GS body), pieces_count GS body)
 
 -- with its version
-transport_with : (v : Version) (f : ℕ) (bs : Bytes) → agreement (GS ∷ version_digits v) bs ≡ 3 → read_transport f bs ≡ read_fields f (some v) (drop 3 bs)
+transport_with : (v : Version) (f : ℕ) (bs : Bytes) → agreement (GS ∷ version_digits v) bs ≡ 3 → read_transport f bs ≡ read_fields f (Some v) (drop 3 bs)
 unfolding read_transport version_of
-transport_with version02 f bs is = ap (read_transport f) (begins (GS ∷ version_digits version02) bs (omega arith))
-transport_with version96 f bs is = ap (read_transport f) (begins (GS ∷ version_digits version96) bs (omega arith))
+transport_with Version02 f bs is = ap (read_transport f) (begins (GS ∷ version_digits Version02) bs (omega arith))
+transport_with Version96 f bs is = ap (read_transport f) (begins (GS ∷ version_digits Version96) bs (omega arith))
 
 -- with neither
 transport_without : (f : ℕ) (bs : Bytes) → ((v : Version) → agreement (GS ∷ version_digits v) bs ≡ 3 → ⊥) → read_transport f bs ≡ refuse BadFormatHeader
@@ -235,12 +235,12 @@ transport_without f [] none_there = refl
 transport_without f (b ∷ bs) none_there = by (eqb b GS) refl
   where
     full : (v : Version) (rest : Bytes) → agreement (GS ∷ version_digits v) (GS ∷ (version_digits v ++ rest)) ≡ 3
-    full version02 rest = refl
-    full version96 rest = refl
+    full Version02 rest = refl
+    full Version96 rest = refl
 
     by_version : (o : Option Version) → b ≡ GS → version_of (take 2 bs) ≡ o → read_fields f o (drop 2 bs) ≡ refuse BadFormatHeader
-    by_version none is e = refl
-    by_version (some v) is e =
+    by_version None is e = refl
+    by_version (Some v) is e =
         absurd (none_there v ((λ i. agreement (GS ∷ version_digits v) (is i ∷ (sym (take-append-drop 2 bs) ∙ ap (λ x. x ++ drop 2 bs) (version_so (take 2 bs) v e)) i)) ∙ full v (drop 2 bs)))
 
     by : (t : Bool) → eqb b GS ≡ t → must t BadFormatHeader (read_fields f (version_of (take 2 bs)) (drop 2 bs)) ≡ refuse BadFormatHeader
@@ -248,27 +248,27 @@ transport_without f (b ∷ bs) none_there = by (eqb b GS) refl
     by false is = refl
 
 version_body : (f : ℕ) (v : Version) (k : Kind) (m : Bytes) (at : ℕ) → at ≤ length m → agreement (GS ∷ version_digits v) (drop at m) ≡ 3
-    → (at + 3 ≤ length m → shown m (read_fields f (some v) (drop (at + 3) m)) ≡ body_found k 2 m (at + 3)) → shown m (read_transport f (drop at m)) ≡ body_found k 2 m (at + 3)
+    → (at + 3 ≤ length m → shown m (read_fields f (Some v) (drop (at + 3) m)) ≡ body_found k 2 m (at + 3)) → shown m (read_transport f (drop at m)) ≡ body_found k 2 m (at + 3)
 version_body f v k m at inside is then =
-    ap (shown m) (transport_with v f (drop at m) is ∙ ap (read_fields f (some v)) (drop-drop 3 at m)) ∙ then (long v is)
+    ap (shown m) (transport_with v f (drop at m) is ∙ ap (read_fields f (Some v)) (drop-drop 3 at m)) ∙ then (long v is)
   where
     long : (v : Version) → agreement (GS ∷ version_digits v) (drop at m) ≡ 3 → at + 3 ≤ length m
-    long version02 is = begins_long (GS ∷ version_digits version02) m at inside is
-    long version96 is = begins_long (GS ∷ version_digits version96) m at inside is
+    long Version02 is = begins_long (GS ∷ version_digits Version02) m at inside is
+    long Version96 is = begins_long (GS ∷ version_digits Version96) m at inside is
 
 pub shown_transport : (f : ℕ) (m : Bytes) (at : ℕ) → at ≤ length m → shown m (read_transport f (drop at m)) ≡ transport_found m at
 unfolding read_fields
 shown_transport f m at inside = by (begins_at (GS ∷ ascii "02") m at) (begins_at (GS ∷ ascii "96") m at) refl refl
   where
     by : (s t : Bool) → begins_at (GS ∷ ascii "02") m at ≡ s → begins_at (GS ∷ ascii "96") m at ≡ t
-        → shown m (read_transport f (drop at m)) ≡ cond s (body_found Fields02 2 m (at + 3)) (cond t (body_found Fields96 2 m (at + 3)) (Refused BadFormatHeader))
-    by true t p q = version_body f version02 Fields02 m at inside (eqb-true _ 3 p) (λ long. shown_body Fields02 2 m (at + 3) (λ body. fields f version02 (pieces GS body)) long (λ body kept. field_rows f version02 body))
-    by false true p q = version_body f version96 Fields96 m at inside (eqb-true _ 3 q) (λ long. shown_body Fields96 2 m (at + 3) (λ body. fields f version96 (pieces GS body)) long (λ body kept. field_rows f version96 body))
+        → shown m (read_transport f (drop at m)) ≡ cond s (body_found Fields02 2 m (at + 3)) (cond t (body_found Fields96 2 m (at + 3)) (no_envelope BadFormatHeader))
+    by true t p q = version_body f Version02 Fields02 m at inside (eqb-true _ 3 p) (λ long. shown_body Fields02 2 m (at + 3) (λ body. fields f Version02 (pieces GS body)) long (λ body kept. field_rows f Version02 body))
+    by false true p q = version_body f Version96 Fields96 m at inside (eqb-true _ 3 q) (λ long. shown_body Fields96 2 m (at + 3) (λ body. fields f Version96 (pieces GS body)) long (λ body kept. field_rows f Version96 body))
     by false false p q = ap (shown m) (transport_without f (drop at m) neither)
       where
         neither : (v : Version) → agreement (GS ∷ version_digits v) (drop at m) ≡ 3 → ⊥
-        neither version02 is = eqb-false _ 3 p is
-        neither version96 is = eqb-false _ 3 q is
+        neither Version02 is = eqb-false _ 3 p is
+        neither Version96 is = eqb-false _ 3 q is
 
 -- 09, 15
 
@@ -277,18 +277,18 @@ pub shown_payload : (rows : ℕ) (m : Bytes) (at n : ℕ) (made : Bytes → Enve
 unfolding read_payload
 shown_payload rows m at n made inside counts = shown_must m (ltb n (length (drop at m)) && eqb (get_or (drop at m) n 0) RS) _ _ ∙ by (ltb n (length (drop at m))) (eqb (get_or (drop at m) n 0) RS) refl
   where
-    by : (s t : Bool) → ltb n (length (drop at m)) ≡ s → cond (s && t) (shown m (closed (made (take n (drop at m))) (drop (n + 1) (drop at m)))) (Refused PayloadDoesNotFit) ≡ cond (s && t) (Closed (at + n + 1) rows) (Refused PayloadDoesNotFit)
+    by : (s t : Bool) → ltb n (length (drop at m)) ≡ s → cond (s && t) (shown m (closed (made (take n (drop at m))) (drop (n + 1) (drop at m)))) (no_envelope PayloadDoesNotFit) ≡ cond (s && t) (closed_at (at + n + 1) rows) (no_envelope PayloadDoesNotFit)
     by true true h =
         let fits = ltb-true n (length (drop at m)) h in
         let long = length-drop at m in
         let left = length-drop (n + 1) (drop at m) in
         let end : length m - length (drop (n + 1) (drop at m)) ≡ at + n + 1 = omega arith in
-        λ i. Closed (end i) (counts (take n (drop at m)) i)
+        λ i. closed_at (end i) (counts (take n (drop at m)) i)
     by true false h = refl
     by false t h = refl
 
--- a header value that runs to the next GS: it ends before the message does, or is refused
-module _ (least most : ℕ) (class : ℕ → Bool) (m : Bytes) (at : ℕ) (inside : at ≤ length m) (next : Bytes → Bytes → Step) (there : ℕ → Found)
+-- a header value that runs to the next GS: it ends before the message does, or is no_envelope
+module _ (least most : ℕ) (class : ℕ → Bool) (m : Bytes) (at : ℕ) (inside : at ≤ length m) (next : Bytes → Bytes → Step) (there : ℕ → Judged)
     (then : (end : ℕ) → end ≡ value_end least most class m at → end < length m → shown m (next (take (end - at) (drop at m)) (drop (end + 1) m)) ≡ there (end + 1)) where
   shown_valued : shown m (valued (λ v. long_as (least to most) v && every class v) (drop at m) next) ≡ after_value m (value_end least most class m at) there
   unfolding long_as
@@ -300,7 +300,7 @@ module _ (least most : ℕ) (class : ℕ → Bool) (m : Bytes) (at : ℕ) (insid
       n : ℕ
       n = seek GS bs
 
-      refused_there : (end : ℕ) → end ≡ length m → Refused BadFormatHeader ≡ after_value m end there
+      refused_there : (end : ℕ) → end ≡ length m → no_envelope BadFormatHeader ≡ after_value m end there
       refused_there end is = sym (cond_no _ _ _ (le-ltb end (length m) (omega arith)))
 
       by_test : (a w : Bool) → (leb least n && leb n most) ≡ a → every class (take n bs) ≡ w → n < length bs
@@ -360,6 +360,6 @@ shown_counted f m at inside =
 -- By the shape
 
 -- what is found of a shape is what reading by the rule of a format with that shape shows
-pub found_by : (edition : Edition) (s : Shape) (first : Bool) (f : ℕ) (m : Bytes) (at : ℕ) (found : Found) → rule_for s ≡ rule_of edition f
+pub found_by : (edition : Edition) (s : Shape) (first : Bool) (f : ℕ) (m : Bytes) (at : ℕ) (found : Judged) → rule_for s ≡ rule_of edition f
     → shown m (read_by (rule_for s) first f (drop at m)) ≡ found → found ≡ shown m (read_by (rule_of edition f) first f (drop at m))
 found_by edition s first f m at found is shows = sym shows ∙ ap (λ rule. shown m (read_by rule first f (drop at m))) is

@@ -1,21 +1,22 @@
 -- An indicator's number by what its two bytes are worth, and what an envelope's reading makes of it.
+use Rattle.std.specs.Prelude.{Some, None}
 use Prim.Native.Nat.{ℕ, ◌+◌, ◌-◌, ◌*◌, ◌≤◌, ◌<◌}
 use mathlib.Core.Path.{◌≡◌, refl, sym, ap, ◌∙◌}
 use mathlib.Core.Bool.{Bool, true, false, ◌&&◌, cond}
 use mathlib.Core.List.{[], ◌∷◌}
 use native.Mathlib.Omega.{arith}
-use borrow.Author.Tests.{leb-true, le-leb, lt-leb}
+use borrow.Author.Tests.{leb-true, le-leb, lt-leb, lt-ltb, le-ltb, ltb-true, ltb-false}
 use lib.ListN.{length, get_or, drop, length-drop}
-use lib.Dec.{leb}
+use lib.Dec.{leb, ltb}
 use Rattle.label.specs.declared.Reason.TheVariants.{NoIndicator}
 use Rattle.label.specs.Bytes.{Bytes, digit, between}
 use Rattle.label.specs.Values.{value}
 use Rattle.label.specs.declared.Edition.{Edition}
 use Rattle.label.specs.Formats.{rule_of}
 use Rattle.label.specs.ReadEnvelope.{refuse, must, read_by, read_envelope}
-use Rattle.label.proofs.Tests.{both, right_fails}
+use Rattle.label.proofs.Tests.{both, right_fails, cond_yes, cond_no}
 use Rattle.leaves.proofs.Turns.{drop_step}
-use Rattle.envelope.specs.Headers.{decimal_of, no_indicator, indicator_of}
+use Rattle.envelope.specs.Headers.{if_below, decimal_of, no_indicator, indicator_of}
 
 -- a digit, or none
 
@@ -33,6 +34,28 @@ above_digits b l h = not_digit b (λ i. le-leb 0x30 b l i && lt-leb b 0x39 h i)
 pub digit_worth : (b : ℕ) → 0x30 ≤ b → b ≤ 0x39 → b - 0x30 ≡ decimal_of b
 unfolding digit between
 digit_worth b l h = sym (λ i. cond (le-leb 0x30 b l i && le-leb b 0x39 h i) (b - 0x30) 10)
+
+-- a number below a limit, or none
+pub below_some : (limit n : ℕ) → n < limit → Some n ≡ if_below limit n
+below_some limit n h = sym (cond_yes _ _ _ (lt-ltb n limit h))
+
+pub below_none : (limit n : ℕ) → limit ≤ n → None ≡ if_below limit n
+below_none limit n h = sym (cond_no _ _ _ (le-ltb n limit h))
+
+pub not_below : (limit n : ℕ) → None ≡ if_below limit n → limit ≤ n
+not_below limit n none = by (ltb n limit) refl none
+  where
+    by : (t : Bool) → ltb n limit ≡ t → None ≡ cond t (Some n) None → limit ≤ n
+    by true is none = let z : ◌≡◌ {A = ℕ} 0 1 = cc in absurd (omega arith)
+    by false is none = ltb-false n limit is
+
+-- the number that is there is below the limit
+pub is_below : (limit n f : ℕ) → Some f ≡ if_below limit n → (n ≡ f) × (n < limit)
+is_below limit n f some = by (ltb n limit) refl some
+  where
+    by : (t : Bool) → ltb n limit ≡ t → Some f ≡ cond t (Some n) None → (n ≡ f) × (n < limit)
+    by true is some = let same : n ≡ f = cc in (same, ltb-true n limit is)
+    by false is some = let z : ◌≡◌ {A = ℕ} 0 1 = cc in absurd (omega arith)
 
 -- two bytes and what follows
 

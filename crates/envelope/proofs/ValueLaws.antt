@@ -1,4 +1,5 @@
 -- Header values and the number of a count, by the tests and turns that the code makes.
+use Rattle.std.specs.Prelude.{Ok, Err}
 use Prim.Native.Nat.{ℕ, ◌+◌, ◌-◌, ◌*◌, ◌^◌, ◌≤◌, ◌<◌}
 use mathlib.Core.Path.{◌≡◌, refl, sym, ap, ◌∙◌}
 use mathlib.Core.Bool.{Bool, true, false, not, ◌&&◌, ◌||◌, cond}
@@ -14,7 +15,10 @@ use Rattle.label.specs.ReadMessage.{agreement}
 use Rattle.label.proofs.Places.{agreement_inside}
 use Rattle.leaves.specs.Seek.{seek}
 use Rattle.leaves.proofs.Turns.{drop_step, drop_past}
-use Rattle.envelope.specs.Headers.{value_end}
+use Rattle.envelope.specs.Headers.{value_end, value_found}
+use Rattle.envelope.specs.Judged.{Judged, no_envelope}
+use Rattle.envelope.specs.Formats.{after_value}
+use Rattle.label.specs.declared.Reason.TheVariants.{BadFormatHeader}
 
 -- Header values
 
@@ -53,6 +57,14 @@ module _ (least most : ℕ) (class : ℕ → Bool) (m : Bytes) (at end : ℕ) (i
 
   pub value_bad : end < length m → (ltb (end - at) least || ltb most (end - at)) ≡ false → every class (take (end - at) (drop at m)) ≡ false → length m ≡ value_end least most class m at
   value_bad some h r = by_tests true true false (here some) (size_by false h) r
+
+-- what follows a header value that was found
+pub found_after : (m : Bytes) (end next : ℕ) (then : ℕ → Judged) → Ok next ≡ value_found m end → after_value m end then ≡ then (next + 1)
+found_after m end next then found = by (ltb end (length m)) found
+  where
+    by : (t : Bool) → Ok next ≡ cond t (Ok end) (Err BadFormatHeader) → cond t (then (end + 1)) (no_envelope BadFormatHeader) ≡ then (next + 1)
+    by true is = let same : end ≡ next = cc in ap (λ n. then (n + 1)) same
+    by false is = let z : ◌≡◌ {A = ℕ} 0 1 = cc in absurd (omega arith)
 
 -- Counts
 

@@ -1,3 +1,4 @@
+pub mod Judged
 pub mod Shown
 pub mod Headers
 pub mod Bodies

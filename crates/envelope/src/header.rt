@@ -2,61 +2,62 @@
 ghost use Rattle.std.specs.Prelude.{◌≡◌, ◌-◌, ◌≤◌, length, drop};
 ghost use Rattle.label.specs.Values.{value, count_length};
 ghost use Rattle.leaves.specs.Classes.{class_of};
-ghost use Rattle.envelope.specs.Headers.{decimal_of, indicator_of, value_end};
+ghost use Rattle.envelope.specs.Headers.{if_below, decimal_of, no_indicator, indicator_of, value_end, value_found};
 
+use label::Reason;
 use leaves::{Class, GS};
 
-// What a digit is worth, or 10 where a byte is none.
-fn decimal(b: u8) -> usize
-    ensures { result ≡ decimal_of b }
+// What a digit is worth.
+fn decimal(b: u8) -> Option<usize>
+    ensures { result ≡ if_below 10 (decimal_of b) }
 {
-    if b < 0x30 {
-        return 10;
+    if b < b'0' {
+        return None;
     }
-    if 0x39 < b {
-        return 10;
+    if b'9' < b {
+        return None;
     }
-    (b - 0x30) as usize
+    Some(usize::from(b - b'0'))
 }
 
-// The number of the indicator at an offset, or 100 where there is none.
-pub(crate) fn indicator(m: &[u8], at: usize) -> usize
-    ensures { result ≡ indicator_of (drop at m.now) }
+// The number of the indicator at an offset.
+pub(crate) fn indicator(m: &[u8], at: usize) -> Option<usize>
+    ensures { result ≡ if_below no_indicator (indicator_of (drop at m.now)) }
 {
     if m.len() < 2 {
-        return 100;
+        return None;
     }
     if m.len() - 2 < at {
-        return 100;
+        return None;
     }
-    let tens = decimal(m[at]);
-    if 9 < tens {
-        return 100;
-    }
-    let units = decimal(m[at + 1]);
-    if 9 < units {
-        return 100;
-    }
-    tens * 10 + units
+    let tens = decimal(m[at])?;
+    let units = decimal(m[at + 1])?;
+    Some(tens * 10 + units)
 }
 
-// Where a header value of 09 ends that begins at an offset: at the next GS, if its length and bytes are as they should; else the length.
-pub(crate) fn value_end(m: &[u8], at: usize, least: usize, most: usize, k: Class) -> usize
+// Where a header value of 09 or 15 ends that begins at an offset: at the next GS, if its length and bytes are as they should; else 8.
+pub(crate) fn value_end(
+    m: &[u8],
+    at: usize,
+    least: usize,
+    most: usize,
+    k: Class,
+) -> Result<usize, Reason>
     requires { at ≤ length m.now }
-    ensures { result ≡ value_end least most (class_of k) m.now at }
+    ensures { result ≡ value_found m.now (value_end least most (class_of k) m.now at) }
 {
     let end = leaves::find(m, at, GS);
     if m.len() <= end {
-        return m.len();
+        return Err(Reason::BadFormatHeader);
     }
     let size = end - at;
     if (size < least) | (most < size) {
-        return m.len();
+        return Err(Reason::BadFormatHeader);
     }
     if leaves::all_in(k, &m[at..end]) {
-        return end;
+        return Ok(end);
     }
-    m.len()
+    Err(Reason::BadFormatHeader)
 }
 
 // The number that the digits of a count make.

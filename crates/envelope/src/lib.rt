@@ -5,27 +5,49 @@ mod body;
 mod format;
 mod header;
 
-ghost use Rattle.std.specs.Prelude.{◌≡◌, ◌≤◌, length, drop};
+ghost use Rattle.std.specs.Prelude.{◌≡◌, ◌≤◌, length, drop, None};
 ghost use Rattle.label.specs.Formats.{rule_of};
 ghost use Rattle.label.specs.ReadEnvelope.{read_by, read_envelope};
-ghost use Rattle.envelope.specs.Shown.{shown};
+ghost use Rattle.envelope.specs.Shown.{shown, placed};
 
 use formats::{Shape, shape_in};
-use label::{Edition, Reason};
+use label::{Edition, Reason, Refusal};
 use pieces::Kind;
 
-// What is found where an envelope is due: an envelope with the offset behind its RS and its rows, one that takes all the rest with its
-// rows, why there is none, or why one of its fields or elements is refused and where that starts. `shown` of specs/Shown has what each says.
+// What is found where an envelope is due: an envelope with the offset behind its RS and its rows, or one that takes all the rest with its rows.
 #[derive(Clone, Copy)]
 pub enum Found {
     Closed(usize, usize),
     Whole(usize),
-    Refused(Reason),
-    RefusedAt(Reason, usize),
+}
+
+// Why there is none: the reason, and where a field or an element is at fault the place at which that starts. Else the place is where the
+// envelope is due.
+#[derive(Clone, Copy)]
+pub(crate) struct Fault {
+    pub reason: Reason,
+    pub place: Option<usize>,
+}
+
+impl From<Reason> for Fault {
+    ghost from_gives = { λ reason fault. fault ≡ record { reason = reason; place = None } };
+
+    fn from(reason: Reason) -> Fault {
+        Fault {
+            reason,
+            place: None,
+        }
+    }
 }
 
 // The format with a number in an edition, behind its indicator: 6, then 7, then its header and body.
-fn judge_format(edition: Edition, m: &[u8], at: usize, f: usize, first: bool) -> Found
+fn judge_format(
+    edition: Edition,
+    m: &[u8],
+    at: usize,
+    f: usize,
+    first: bool,
+) -> Result<Found, Fault>
     requires { at ≤ length m.now }
     ensures { result ≡ shown m.now (read_by (rule_of edition f) first f (drop at m.now)) }
 {
@@ -34,12 +56,12 @@ fn judge_format(edition: Edition, m: &[u8], at: usize, f: usize, first: bool) ->
         Shape::Fields => if first {
             format::judge_transport(m, at)
         } else {
-            Found::Refused(Reason::NotFirst)
+            Err(Reason::NotFirst.into())
         },
         Shape::Rest => if first {
             format::judge_rest(m, at)
         } else {
-            Found::Refused(Reason::NotFirst)
+            Err(Reason::NotFirst.into())
         },
         Shape::Segments03 => format::judge_segments(m, at, Kind::Segments03),
         Shape::Segments04 => format::judge_segments(m, at, Kind::Segments04),
@@ -49,17 +71,26 @@ fn judge_format(edition: Edition, m: &[u8], at: usize, f: usize, first: bool) ->
         Shape::Counted => format::judge_counted(m, at),
         Shape::Elements12 => format::judge_elements(m, at, Kind::Elements12),
         Shape::CountOnly => format::judge_count_only(m, at),
-        Shape::Unknown => Found::Refused(Reason::UnknownFormat),
+        Shape::Unknown => Err(Reason::UnknownFormat.into()),
     }
 }
 
 // What is found where an envelope is due: 3, then its format.
-pub fn judge_envelope(edition: Edition, m: &[u8], at: usize, first: bool) -> Found
+fn judge_due(edition: Edition, m: &[u8], at: usize, first: bool) -> Result<Found, Fault>
     ensures { result ≡ shown m.now (read_envelope edition first (drop at m.now)) }
 {
-    let f = header::indicator(m, at);
-    if 99 < f {
-        return Found::Refused(Reason::NoIndicator);
-    }
+    let Some(f) = header::indicator(m, at) else {
+        return Err(Reason::NoIndicator.into());
+    };
     judge_format(edition, m, at + 2, f, first)
+}
+
+// The same, with the place of each refusal.
+pub fn judge_envelope(edition: Edition, m: &[u8], at: usize, first: bool) -> Result<Found, Refusal>
+    ensures { result ≡ placed at (shown m.now (read_envelope edition first (drop at m.now))) }
+{
+    judge_due(edition, m, at, first).map_err(|fault| Refusal {
+        reason: fault.reason,
+        place: fault.place.unwrap_or(at),
+    })
 }

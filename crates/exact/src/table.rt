@@ -12,17 +12,17 @@ pub fn read_exactly(edition: Edition, message: &[u8], table: &mut [u32]) -> Read
 {
     let judged = judge::judge(edition, message);
     match judged {
-        Reading::Accepted(counts) => {
+        Ok(counts) => {
             let rows = counts.rows;
             if table.len() / ROW < rows {
-                return Reading::Refused(Refusal {
+                return Err(Refusal {
                     reason: Reason::NoRoom,
                     place: 0,
                 });
             }
             fill(message, rows, table);
-            Reading::Accepted(counts)
+            Ok(counts)
         }
-        Reading::Refused(refusal) => Reading::Refused(refusal),
+        Err(refusal) => Err(refusal),
     }
 }

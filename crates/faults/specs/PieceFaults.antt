@@ -1,22 +1,19 @@
 -- The fault of a body, and of one of its pieces, by the kind of body. Why a piece is refused that isn't as asked is told by its length alone.
-use Rattle.std.specs.Prelude.{ℕ, ◌+◌, ◌&&◌, ◌||◌, cond, length, ltb}
+use Rattle.std.specs.Prelude.{ℕ, ◌+◌, ◌&&◌, ◌||◌, cond, length, ltb, None, Option, Some}
 use Rattle.label.specs.declared.Reason.{Reason}
 use Rattle.label.specs.declared.Reason.TheVariants.{BodyBreaksRules, BadFieldCount, FieldTooShort, FieldTooLong, BadFieldBytes}
-use Rattle.label.specs.declared.PieceFault.{PieceFault}
-use Rattle.label.specs.declared.PieceFault.TheVariants.{Faulty, Faultless}
-use Rattle.label.specs.declared.BodyFault.{BodyFault}
-use Rattle.label.specs.declared.BodyFault.TheVariants.{InPiece}
 use Rattle.label.specs.Bytes.{Bytes, GS}
 use Rattle.label.specs.Pieces.{pieces, last_is_empty}
 use Rattle.label.specs.Limits.{limit_of}
-use Rattle.label.specs.Values.{version02, version96}
+use Rattle.label.specs.declared.Version.TheVariants.{Version02, Version96}
 use Rattle.label.specs.Elements.{element05, element06, element12}
 use Rattle.label.specs.Fields.{least_fields}
-use Rattle.label.specs.Faults.{first_fault, fields_fault, elements_fault, whole_fault}
+use Rattle.label.specs.Faults.{first_fault, fields_fault, elements_fault, whole_fault, in_piece}
 use Rattle.leaves.specs.Seek.{tally_of}
 use Rattle.pieces.specs.declared.Kind.{Kind}
 use Rattle.pieces.specs.declared.Kind.TheVariants.{Fields02, Fields96, Segments03, Segments04, Elements05, Elements06, Text, Elements12}
 use Rattle.pieces.specs.PieceTests.{piece_test}
+use Rattle.label.specs.declared.Refusal.{Refusal}
 
 -- why a field is refused that isn't as stated, by the row of its version in the limits
 abbrev pub field_reason : ℕ → ℕ → ℕ → Reason
@@ -36,20 +33,20 @@ reason_of Text i n = BodyBreaksRules
 reason_of Elements12 i n = BodyBreaksRules
 
 -- the fault of the piece with an index
-abbrev pub piece_fault : Kind → ℕ → Bytes → PieceFault
-piece_fault k i p = cond (piece_test k i p) Faultless (Faulty (reason_of k i (length p)))
+abbrev pub piece_fault : Kind → ℕ → Bytes → Option Reason
+piece_fault k i p = cond (piece_test k i p) None (Some (reason_of k i (length p)))
 
 -- the fault of fields by how many separators there are, the last byte and each field's fault
-abbrev pub fields_fault_of : (ℕ → Bytes → PieceFault) → ℕ → Bytes → BodyFault
+abbrev pub fields_fault_of : (ℕ → Bytes → Option Reason) → ℕ → Bytes → Option Refusal
 fields_fault_of fault_of most body =
-    cond (ltb (tally_of GS body + 1) least_fields || ltb most (tally_of GS body + 1)) (InPiece BadFieldCount 0)
-    (cond (ltb least_fields (tally_of GS body + 1) && last_is_empty (pieces GS body)) (InPiece BadFieldCount (length body))
+    cond (ltb (tally_of GS body + 1) least_fields || ltb most (tally_of GS body + 1)) (in_piece BadFieldCount 0)
+    (cond (ltb least_fields (tally_of GS body + 1) && last_is_empty (pieces GS body)) (in_piece BadFieldCount (length body))
     (first_fault fault_of 0 0 (pieces GS body)))
 
 -- the fault of a body that breaks its rules
-abbrev pub fault_of : Kind → Bytes → BodyFault
-fault_of Fields02 body = fields_fault version02 body
-fault_of Fields96 body = fields_fault version96 body
+abbrev pub fault_of : Kind → Bytes → Option Refusal
+fault_of Fields02 body = fields_fault Version02 body
+fault_of Fields96 body = fields_fault Version96 body
 fault_of Segments03 body = whole_fault body
 fault_of Segments04 body = whole_fault body
 fault_of Elements05 body = elements_fault element05 body

@@ -8,7 +8,7 @@ ghost use Rattle.label.specs.Pieces.{pieces};
 ghost use Rattle.label.specs.Faults.{first_fault};
 ghost use Rattle.faults.specs.PieceFaults.{field_reason, reason_of, piece_fault, fields_fault_of, fault_of};
 
-use label::{BodyFault, LEAST_FIELDS, MOST_FIELDS_02, MOST_FIELDS_96, PieceFault, Reason};
+use label::{LEAST_FIELDS, MOST_FIELDS_02, MOST_FIELDS_96, Reason, Refusal};
 use leaves::GS;
 use pieces::Kind;
 
@@ -33,69 +33,64 @@ fn reason_of(k: Kind, i: usize, n: usize) -> Reason
     match k {
         Kind::Fields02 => field_reason(0, i, n),
         Kind::Fields96 => field_reason(1, i, n),
-        Kind::Segments03 => Reason::BodyBreaksRules,
-        Kind::Segments04 => Reason::BodyBreaksRules,
-        Kind::Elements05 => Reason::BodyBreaksRules,
-        Kind::Elements06 => Reason::BodyBreaksRules,
-        Kind::Text => Reason::BodyBreaksRules,
-        Kind::Elements12 => Reason::BodyBreaksRules,
+        _ => Reason::BodyBreaksRules,
     }
 }
 
-// What is wrong with the piece with an index.
-fn piece_fault(k: Kind, i: usize, p: &[u8]) -> PieceFault
+// Why the piece with an index is refused, if it isn't as asked.
+fn piece_fault(k: Kind, i: usize, p: &[u8]) -> Option<Reason>
     ensures { result ≡ piece_fault k i p.now }
 {
     if pieces::piece_holds(k, i, p) {
-        return PieceFault::Faultless;
+        return None;
     }
-    PieceFault::Faulty(reason_of(k, i, p.len()))
+    Some(reason_of(k, i, p.len()))
 }
 
 // The first faulty piece and where it starts: one sweep, a piece a turn, that leaves there.
-fn first_fault(k: Kind, s: &[u8]) -> BodyFault
+fn first_fault(k: Kind, s: &[u8]) -> Option<Refusal>
     ensures { result ≡ first_fault (piece_fault k) 0 0 (pieces GS s.now) }
 {
     let mut i = 0;
     let mut at = 0;
     while at <= s.len() {
         let end = leaves::find(s, at, GS);
-        let found = piece_fault(k, i, &s[at..end]);
-        if let PieceFault::Faulty(reason) = found {
-            return BodyFault::InPiece(reason, at);
+        if let Some(reason) = piece_fault(k, i, &s[at..end]) {
+            return Some(Refusal { reason, place: at });
         }
         i += 1;
         at = end + 1;
     }
-    BodyFault::OfWhole
+    None
 }
 
 // Fields of a version: their number, with it the last one, and then each from the left.
-fn fields_fault(k: Kind, most: usize, body: &[u8]) -> BodyFault
+fn fields_fault(k: Kind, most: usize, body: &[u8]) -> Option<Refusal>
     ensures { result ≡ fields_fault_of (piece_fault k) most body.now }
 {
+    let reason = Reason::BadFieldCount;
     let fields = tallies::tally(body, GS) + 1;
     if (fields < LEAST_FIELDS) | (most < fields) {
-        return BodyFault::InPiece(Reason::BadFieldCount, 0);
+        return Some(Refusal { reason, place: 0 });
     }
     if (LEAST_FIELDS < fields) & bodies::last_empty(body, GS) {
-        return BodyFault::InPiece(Reason::BadFieldCount, body.len());
+        return Some(Refusal {
+            reason,
+            place: body.len(),
+        });
     }
     first_fault(k, body)
 }
 
-// The fault of a body whose rules don't hold.
-pub fn fault_in(k: Kind, body: &[u8]) -> BodyFault
+// The fault of a body whose rules don't hold: which piece is refused, why, and where in the body it starts; or no piece by itself, so that
+// the body is refused as a whole.
+pub fn fault_in(k: Kind, body: &[u8]) -> Option<Refusal>
     ensures { result ≡ fault_of k body.now }
 {
     match k {
         Kind::Fields02 => fields_fault(k, MOST_FIELDS_02, body),
         Kind::Fields96 => fields_fault(k, MOST_FIELDS_96, body),
-        Kind::Segments03 => BodyFault::OfWhole,
-        Kind::Segments04 => BodyFault::OfWhole,
-        Kind::Elements05 => first_fault(k, body),
-        Kind::Elements06 => first_fault(k, body),
-        Kind::Text => BodyFault::OfWhole,
-        Kind::Elements12 => first_fault(k, body),
+        Kind::Elements05 | Kind::Elements06 | Kind::Elements12 => first_fault(k, body),
+        Kind::Segments03 | Kind::Segments04 | Kind::Text => None,
     }
 }

@@ -1,13 +1,13 @@
 -- The judgement of a message is what reading it comes to: the counts are the list's own, and the walk with no bound is the reading's.
+use Rattle.std.specs.Prelude.{Err, Ok}
 use Prim.Native.Nat.{ℕ, suc, ◌+◌, ◌≤◌, ◌<◌}
 use mathlib.Core.Path.{◌≡◌, refl, sym, ap, ◌∙◌}
 use mathlib.Core.Bool.{Bool, true, false, cond, false≢true}
 use mathlib.Core.List.{List, [], ◌∷◌, ◌++◌, map}
 use native.Mathlib.Omega.{arith}
-use borrow.Author.Tests.{lt-ltb, le-ltb}
+use borrow.Author.Tests.{leb-true, lt-ltb, le-ltb}
 use lib.ListN.{length, drop, length-drop}
-use lib.Dec.{ltb}
-use Rattle.label.specs.declared.Reading.TheVariants.{Accepted, Refused}
+use lib.Dec.{leb, ltb}
 use Rattle.label.specs.declared.Reason.TheVariants.{TooLong, NoMessageHeader, TooManyRows}
 use Rattle.label.specs.declared.Edition.{Edition}
 use Rattle.label.specs.Bytes.{Bytes, RS}
@@ -18,6 +18,8 @@ use Rattle.label.specs.Written.{parts}
 use Rattle.label.specs.Message.{header, is_rest_alone, message_parts, rows_of}
 use Rattle.label.specs.ReadMessage.{Outcome, read, refused, walk, enough, agreement, within_rows, reading, unbounded_walk}
 use Rattle.label.proofs.Walk.{bound_is_enough}
+use Rattle.label.proofs.Places.{agreement_inside}
+use Rattle.label.specs.Answer.{Reading}
 use Rattle.label.proofs.RowItems.{rows_items}
 use Rattle.label.proofs.Tests.{cond_yes, cond_no}
 use Rattle.envelope.proofs.RowCounts.{items_append}
@@ -56,17 +58,17 @@ limited_law (read es) = by (ltb most_rows (length (rows_of es))) refl
 
     by : (t : Bool) → ltb most_rows (length (rows_of es)) ≡ t → limited (tallied 0 0 (read es)) ≡ judged_as (cond t (refused TooManyRows 0) (read es))
     by true many = cond_yes _ _ _ (ap (ltb most_rows) rows ∙ many)
-    by false few = cond_no _ _ _ (ap (ltb most_rows) rows ∙ few) ∙ (λ i. Accepted (record { envelopes = envelopes i; rows = rows i }))
+    by false few = cond_no _ _ _ (ap (ltb most_rows) rows ∙ few) ∙ (λ i. Ok (record { envelopes = envelopes i; rows = rows i }))
 limited_law (refused r p) = refl
 
-pub judge_long : (edition : Edition) (m : Bytes) → longest < length m → Refused (record { reason = TooLong; place = longest }) ≡ judged_as (reading edition m)
+pub judge_long : (edition : Edition) (m : Bytes) → longest < length m → Err (record { reason = TooLong; place = longest }) ≡ judged_as (reading edition m)
 unfolding reading
 judge_long edition m long = sym (ap judged_as (cond_yes _ _ _ (lt-ltb longest (length m) long)))
 
-pub judge_header : (edition : Edition) (m : Bytes) (n : ℕ) → length m ≤ longest → n ≡ agreement header m → n < 4 → Refused (record { reason = NoMessageHeader; place = n }) ≡ judged_as (reading edition m)
+pub judge_header : (edition : Edition) (m : Bytes) (n : ℕ) → length m ≤ longest → n ≡ agreement header m → n < 4 → Err (record { reason = NoMessageHeader; place = n }) ≡ judged_as (reading edition m)
 unfolding reading
 judge_header edition m n short is differs =
-    ap (λ p. Refused (record { reason = NoMessageHeader; place = p })) is
+    ap (λ p. Err (record { reason = NoMessageHeader; place = p })) is
     ∙ sym (ap judged_as (cond_no _ _ _ (le-ltb longest (length m) short) ∙ cond_yes _ _ _ (lt-ltb (agreement header m) 4 (omega arith))))
 
 pub judge_walk : (edition : Edition) (m : Bytes) → length m ≤ longest → 4 ≤ agreement header m → 4 ≤ length m → limited (tallied 0 0 (unbounded_walk edition m true (drop 4 m))) ≡ judged_as (reading edition m)
@@ -75,3 +77,10 @@ judge_walk edition m short agrees long =
     limited_law (walk edition m (suc (length (drop 4 m))) true (drop 4 m))
     ∙ ap (λ o. judged_as (within_rows o)) (bound_is_enough edition m (suc (length (drop 4 m))) (enough m) true (drop 4 m) (omega arith) (omega (arith, length-drop 4 m)))
     ∙ sym (ap judged_as (cond_no _ _ _ (le-ltb longest (length m) short) ∙ cond_no _ _ _ (le-ltb (agreement header m) 4 agrees)))
+
+-- the same of what the walk answers, behind a header that is there
+pub judge_comes : (edition : Edition) (m : Bytes) → length m ≤ longest → leb (length header) (agreement header m) ≡ true → (walked : Reading) → walked ≡ tallied 0 0 (unbounded_walk edition m true (drop (length header) m)) → limited walked ≡ judged_as (reading edition m)
+judge_comes edition m short headed walked is =
+    let agrees = leb-true (length header) (agreement header m) headed in
+    let inside = agreement_inside header m in
+    ap limited is ∙ judge_walk edition m short (omega arith) (omega arith)

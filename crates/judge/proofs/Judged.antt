@@ -1,11 +1,11 @@
 -- How many rows are read in a message that is judged: as many as were counted, and none in a refused one.
+use Rattle.std.specs.Prelude.{Err, Ok}
 use Prim.Native.Nat.{ℕ}
 use mathlib.Core.Path.{◌≡◌, refl, sym, ap}
 use native.Mathlib.Omega.{arith}
 use lib.ListN.{length}
 use Rattle.label.specs.declared.Counts.{Counts}
 use Rattle.label.specs.declared.Refusal.{Refusal}
-use Rattle.label.specs.declared.Reading.TheVariants.{Accepted, Refused}
 use Rattle.label.specs.declared.Edition.{Edition}
 use Rattle.label.specs.Bytes.{Bytes}
 use Rattle.label.specs.Message.{rows_of}
@@ -13,16 +13,16 @@ use Rattle.label.specs.ReadMessage.{Outcome, read, refused, reading}
 use Rattle.label.specs.Answer.{rows_read}
 use Rattle.judge.specs.Shown.{judged_as}
 
-rows_by : (o : Outcome) (counts : Counts) → judged_as o ≡ Accepted counts → counts.rows ≡ length (rows_read o)
+rows_by : (o : Outcome) (counts : Counts) → judged_as o ≡ Ok counts → counts.rows ≡ length (rows_read o)
 rows_by (read es) counts says = let is : record { envelopes = length es; rows = length (rows_of es) } ≡ counts = cc in sym (ap (λ (c : Counts). c.rows) is)
 rows_by (refused r p) counts says = let z : ◌≡◌ {A = ℕ} 0 1 = cc in absurd (omega arith)
 
-none_by : (o : Outcome) (r : Refusal) → judged_as o ≡ Refused r → 0 ≡ length (rows_read o)
+none_by : (o : Outcome) (r : Refusal) → judged_as o ≡ Err r → 0 ≡ length (rows_read o)
 none_by (read es) r says = let z : ◌≡◌ {A = ℕ} 0 1 = cc in absurd (omega arith)
 none_by (refused reason place) r says = refl
 
-pub rows_judged : (edition : Edition) (m : Bytes) (counts : Counts) → judged_as (reading edition m) ≡ Accepted counts → counts.rows ≡ length (rows_read (reading edition m))
+pub rows_judged : (edition : Edition) (m : Bytes) (counts : Counts) → judged_as (reading edition m) ≡ Ok counts → counts.rows ≡ length (rows_read (reading edition m))
 rows_judged edition m counts says = rows_by (reading edition m) counts says
 
-pub none_judged : (edition : Edition) (m : Bytes) (r : Refusal) → judged_as (reading edition m) ≡ Refused r → 0 ≡ length (rows_read (reading edition m))
+pub none_judged : (edition : Edition) (m : Bytes) (r : Refusal) → judged_as (reading edition m) ≡ Err r → 0 ≡ length (rows_read (reading edition m))
 none_judged edition m r says = none_by (reading edition m) r says

@@ -5,7 +5,9 @@ use mathlib.Core.List.{List, [], ◌∷◌, ◌++◌, map}
 use native.Mathlib.Omega.{arith}
 use lib.ListN.{length, length-append}
 use Rattle.label.specs.Bytes.{Bytes, FS, GS, US}
-use Rattle.label.specs.Values.{Version, version02, version96, version_digits}
+use Rattle.label.specs.Values.{version_digits}
+use Rattle.label.specs.declared.Version.{Version}
+use Rattle.label.specs.declared.Version.TheVariants.{Version02, Version96}
 use Rattle.label.specs.Segments.{Element, Segment}
 use Rattle.label.specs.Layout.{Part, mark, bytes_of, items_of, further, separated, ended}
 use Rattle.label.specs.Envelope.{Envelope, fields, whole_rest, segments, elements, text, counted}
@@ -62,8 +64,8 @@ under_values f [] = omega arith
 under_values f (v ∷ vs) = omega (arith, under_ended GS (rowed_each value_row f (v ∷ vs)) (each_rowed value_row f (v ∷ vs)))
 
 two_digits_long : (v : Version) → length (version_digits v) ≡ 2
-two_digits_long version02 = refl
-two_digits_long version96 = refl
+two_digits_long Version02 = refl
+two_digits_long Version96 = refl
 
 pub few_rows_lem : (e : Envelope) → row_count e ≤ length (bytes_of (parts e))
 unfolding parts

@@ -1,4 +1,5 @@
 -- A turn of the walk: by what is found of an envelope, the message comes to the same from the next state on, and that lies further to the right.
+use Rattle.std.specs.Prelude.{Result, Err, Ok}
 use Prim.Native.Nat.{ℕ, ◌+◌, ◌-◌, ◌≤◌, ◌<◌}
 use mathlib.Core.Path.{◌≡◌, refl, sym, ap, ◌∙◌}
 use mathlib.Core.Bool.{Bool, true, false, cond}
@@ -8,8 +9,7 @@ use borrow.Author.Tests.{leb-true, leb-false, le-leb, lt-leb}
 use lib.ListN.{length, get_or, drop, length-append, length-drop}
 use lib.Seq.{drop-drop, drop-append-add}
 use lib.Dec.{leb, eqb}
-use Rattle.label.specs.declared.Reading.TheVariants.{Accepted, Refused as RefusedReading}
-use Rattle.label.specs.declared.Reason.{Reason}
+use Rattle.label.specs.declared.Refusal.{Refusal}
 use Rattle.label.specs.declared.Reason.TheVariants.{NoTrailer, BytesAfterTrailer}
 use Rattle.label.specs.declared.Edition.{Edition}
 use Rattle.label.specs.Bytes.{Bytes, EOT, RS}
@@ -22,38 +22,37 @@ use Rattle.label.proofs.EnvelopeSound.{StepSo, step_so}
 use Rattle.label.proofs.Walk.{one_step_then_walk}
 use Rattle.label.proofs.Tests.{cond_yes, cond_no}
 use Rattle.leaves.proofs.Turns.{drop_step, drop_past}
-use Rattle.envelope.specs.declared.Found.TheVariants.{Closed, Whole, Refused, RefusedAt}
-use Rattle.envelope.specs.Shown.{row_count, shown}
+use Rattle.envelope.specs.declared.Found.TheVariants.{Closed, Whole}
+use Rattle.envelope.specs.Shown.{row_count, shown, placed}
 use Rattle.judge.specs.declared.State.{State}
-use Rattle.judge.specs.declared.Turn.TheVariants.{Done, Go}
 use Rattle.judge.specs.Shown.{total_rows, tallied}
-use Rattle.judge.specs.Turns.{result_of, result_after, Sound, Further, TurnSo, boundary_turn}
+use Rattle.judge.specs.Turns.{done, go, result_of, result_after, Sound, Further, TurnSo, boundary_turn}
 use Rattle.judge.proofs.RowBounds.{few_rows_lem}
 
 -- At a boundary
 
 module _ (m : Bytes) (at envelopes rows : ℕ) where
-  pub boundary_end : length m ≤ at → Done (RefusedReading (record { reason = NoTrailer; place = at })) ≡ boundary_turn m at envelopes rows
+  pub boundary_end : length m ≤ at → Err (record { reason = NoTrailer; place = at }) ≡ boundary_turn m at envelopes rows
   boundary_end past = sym (cond_yes _ _ _ (le-leb (length m) at past))
 
-  pub boundary_next : at < length m → eqb (get_or m at 0) EOT ≡ false → Go (record { at = at; first = false; envelopes = envelopes; rows = rows }) ≡ boundary_turn m at envelopes rows
+  pub boundary_next : at < length m → eqb (get_or m at 0) EOT ≡ false → go (record { at = at; first = false; envelopes = envelopes; rows = rows }) ≡ boundary_turn m at envelopes rows
   boundary_next inside other = sym (cond_no _ _ _ (lt-leb (length m) at inside) ∙ cond_no _ _ _ other)
 
-  pub boundary_last : at < length m → eqb (get_or m at 0) EOT ≡ true → length m ≤ at + 1 → Done (Accepted (record { envelopes = envelopes; rows = rows })) ≡ boundary_turn m at envelopes rows
+  pub boundary_last : at < length m → eqb (get_or m at 0) EOT ≡ true → length m ≤ at + 1 → done (record { envelopes = envelopes; rows = rows }) ≡ boundary_turn m at envelopes rows
   boundary_last inside is past = sym (cond_no _ _ _ (lt-leb (length m) at inside) ∙ cond_yes _ _ _ is ∙ cond_yes _ _ _ (le-leb (length m) (at + 1) past))
 
-  pub boundary_more : at < length m → eqb (get_or m at 0) EOT ≡ true → at + 1 < length m → Done (RefusedReading (record { reason = BytesAfterTrailer; place = at + 1 })) ≡ boundary_turn m at envelopes rows
+  pub boundary_more : at < length m → eqb (get_or m at 0) EOT ≡ true → at + 1 < length m → Err (record { reason = BytesAfterTrailer; place = at + 1 }) ≡ boundary_turn m at envelopes rows
   boundary_more inside is more = sym (cond_no _ _ _ (lt-leb (length m) at inside) ∙ cond_yes _ _ _ is ∙ cond_no _ _ _ (lt-leb (length m) (at + 1) more))
 
   trailer_law : (edition : Edition) (rest : Bytes) → length rest ≡ length m - (at + 1) → at < length m
-      → result_after edition m (cond (leb (length m) (at + 1)) (Done (Accepted (record { envelopes = envelopes; rows = rows }))) (Done (RefusedReading (record { reason = BytesAfterTrailer; place = at + 1 }))))
+      → result_after edition m (cond (leb (length m) (at + 1)) (done (record { envelopes = envelopes; rows = rows })) (Err (record { reason = BytesAfterTrailer; place = at + 1 })))
       ≡ tallied envelopes rows (after_trailer m rest)
-  trailer_law edition [] long inside = ap (result_after edition m) (cond_yes _ _ _ (le-leb (length m) (at + 1) (omega arith))) ∙ (λ i. Accepted (record { envelopes = none_more envelopes i; rows = none_more rows i }))
+  trailer_law edition [] long inside = ap (result_after edition m) (cond_yes _ _ _ (le-leb (length m) (at + 1) (omega arith))) ∙ (λ i. Ok (record { envelopes = none_more envelopes i; rows = none_more rows i }))
     where
       none_more : (n : ℕ) → n ≡ n + 0
       none_more n = omega arith
   trailer_law edition (b ∷ rest) long inside =
-      ap (result_after edition m) (cond_no _ _ _ (lt-leb (length m) (at + 1) (omega arith))) ∙ ap (λ p. RefusedReading (record { reason = BytesAfterTrailer; place = p })) place
+      ap (result_after edition m) (cond_no _ _ _ (lt-leb (length m) (at + 1) (omega arith))) ∙ ap (λ p. Err (record { reason = BytesAfterTrailer; place = p })) place
     where
       place : at + 1 ≡ length m - length (b ∷ rest)
       place = omega arith
@@ -66,21 +65,21 @@ module _ (m : Bytes) (at envelopes rows : ℕ) where
       rest = drop (at + 1) m
 
       by_byte : at < length m → (t : Bool) → eqb (get_or m at 0) EOT ≡ t
-          → result_after edition m (cond t (cond (leb (length m) (at + 1)) (Done (Accepted (record { envelopes = envelopes; rows = rows }))) (Done (RefusedReading (record { reason = BytesAfterTrailer; place = at + 1 }))))
-          (Go (record { at = at; first = false; envelopes = envelopes; rows = rows })))
+          → result_after edition m (cond t (cond (leb (length m) (at + 1)) (done (record { envelopes = envelopes; rows = rows })) (Err (record { reason = BytesAfterTrailer; place = at + 1 })))
+          (go (record { at = at; first = false; envelopes = envelopes; rows = rows })))
           ≡ tallied envelopes rows (elim t [ true ↦ after_trailer m rest | false ↦ unbounded_walk edition m false (get_or m at 0 ∷ rest) ])
       by_byte less true is = trailer_law edition rest (length-drop (at + 1) m) less
       by_byte less false is = ap (λ l. tallied envelopes rows (unbounded_walk edition m false l)) (drop_step m at less)
 
       by_end : (t : Bool) → leb (length m) at ≡ t
-          → result_after edition m (cond t (Done (RefusedReading (record { reason = NoTrailer; place = at })))
-          (cond (eqb (get_or m at 0) EOT) (cond (leb (length m) (at + 1)) (Done (Accepted (record { envelopes = envelopes; rows = rows }))) (Done (RefusedReading (record { reason = BytesAfterTrailer; place = at + 1 }))))
-          (Go (record { at = at; first = false; envelopes = envelopes; rows = rows }))))
+          → result_after edition m (cond t (Err (record { reason = NoTrailer; place = at }))
+          (cond (eqb (get_or m at 0) EOT) (cond (leb (length m) (at + 1)) (done (record { envelopes = envelopes; rows = rows })) (Err (record { reason = BytesAfterTrailer; place = at + 1 })))
+          (go (record { at = at; first = false; envelopes = envelopes; rows = rows }))))
           ≡ tallied envelopes rows (at_boundary m (unbounded_walk edition m false) (drop at m))
       by_end true past =
           let over = leb-true (length m) at past in
           let here : at ≡ length m = omega arith in
-          ap (λ p. RefusedReading (record { reason = NoTrailer; place = p })) here ∙ sym (ap (λ l. tallied envelopes rows (at_boundary m (unbounded_walk edition m false) l)) (drop_past m at over))
+          ap (λ p. Err (record { reason = NoTrailer; place = p })) here ∙ sym (ap (λ l. tallied envelopes rows (at_boundary m (unbounded_walk edition m false) l)) (drop_past m at over))
       by_end false inside =
           let less = leb-false (length m) at inside in
           by_byte less (eqb (get_or m at 0) EOT) refl ∙ sym (ap (λ l. tallied envelopes rows (at_boundary m (unbounded_walk edition m false) l)) (drop_step m at less))
@@ -88,9 +87,9 @@ module _ (m : Bytes) (at envelopes rows : ℕ) where
   boundary_further : at ≤ length m → envelopes ≤ at → rows ≤ at → (from : ℕ) → from < at → Further m from (boundary_turn m at envelopes rows)
   boundary_further inside few_e few_r from less = by (leb (length m) at) (eqb (get_or m at 0) EOT) (leb (length m) (at + 1))
     where
-      by : (s t u : Bool) → Further m from (cond s (Done (RefusedReading (record { reason = NoTrailer; place = at })))
-          (cond t (cond u (Done (Accepted (record { envelopes = envelopes; rows = rows }))) (Done (RefusedReading (record { reason = BytesAfterTrailer; place = at + 1 }))))
-          (Go (record { at = at; first = false; envelopes = envelopes; rows = rows }))))
+      by : (s t u : Bool) → Further m from (cond s (Err (record { reason = NoTrailer; place = at }))
+          (cond t (cond u (done (record { envelopes = envelopes; rows = rows })) (Err (record { reason = BytesAfterTrailer; place = at + 1 })))
+          (go (record { at = at; first = false; envelopes = envelopes; rows = rows }))))
       by true t u = tt
       by false true true = tt
       by false true false = tt
@@ -98,7 +97,7 @@ module _ (m : Bytes) (at envelopes rows : ℕ) where
 
 -- an envelope in front is one more, with its rows
 tallied_then : (envelopes rows : ℕ) (e : Envelope) (o : Outcome) → tallied envelopes rows (and_then e o) ≡ tallied (envelopes + 1) (rows + row_count e) o
-tallied_then envelopes rows e (read es) = λ i. Accepted (record { envelopes = one_more i; rows = its_rows i })
+tallied_then envelopes rows e (read es) = λ i. Ok (record { envelopes = one_more i; rows = its_rows i })
   where
     one_more : envelopes + length (e ∷ es) ≡ envelopes + 1 + length es
     one_more = omega arith
@@ -106,6 +105,11 @@ tallied_then envelopes rows e (read es) = λ i. Accepted (record { envelopes = o
     its_rows : rows + (row_count e + total_rows es) ≡ rows + row_count e + total_rows es
     its_rows = omega arith
 tallied_then envelopes rows e (refused r p) = refl
+
+-- a refusal is the same whatever is answered where there is none
+abbrev refusal_in : {A : Type 0} → Refusal → Result A Refusal → Refusal
+refusal_in other (Ok x) = other
+refusal_in other (Err r) = r
 
 -- what follows an envelope begins where it ends
 left_at : (m : Bytes) (at : ℕ) (e : Envelope) (left : Bytes) → at ≤ length m → drop at m ≡ bytes_of (parts e) ++ (RS ∷ left) → drop (length m - length left) m ≡ left
@@ -125,7 +129,7 @@ module _ (edition : Edition) (m : Bytes) (s : State) (sound : Sound m s) where
     pub further : s.at + rows < next
     pub same : result_after edition m (boundary_turn m next (s.envelopes + 1) (s.rows + rows)) ≡ result_of edition m s
 
-  closed_by : (step : Step) → read_envelope edition s.first (drop s.at m) ≡ step → StepSo edition s.first (drop s.at m) step → (next rows : ℕ) → shown m step ≡ Closed next rows → ClosedBy next rows
+  closed_by : (step : Step) → read_envelope edition s.first (drop s.at m) ≡ step → StepSo edition s.first (drop s.at m) step → (next rows : ℕ) → placed s.at (shown m step) ≡ Ok (Closed next rows) → ClosedBy next rows
   closed_by (closed e left) is so next rows found =
       let ends : length m - length left ≡ next = cc in
       let its : row_count e ≡ rows = cc in
@@ -148,7 +152,7 @@ module _ (edition : Edition) (m : Bytes) (s : State) (sound : Sound m s) where
   closed_by (refuse r) is so next rows found = let z : ◌≡◌ {A = ℕ} 0 1 = cc in absurd (omega arith)
   closed_by (refuse_at r from) is so next rows found = let z : ◌≡◌ {A = ℕ} 0 1 = cc in absurd (omega arith)
 
-  pub turn_closed : (next rows : ℕ) → shown m (read_envelope edition s.first (drop s.at m)) ≡ Closed next rows → ClosedBy next rows
+  pub turn_closed : (next rows : ℕ) → placed s.at (shown m (read_envelope edition s.first (drop s.at m))) ≡ Ok (Closed next rows) → ClosedBy next rows
   turn_closed next rows found = closed_by (read_envelope edition s.first (drop s.at m)) refl (step_so edition s.first (drop s.at m)) next rows found
 
   pub closed_so : (next rows : ℕ) → ClosedBy next rows → TurnSo edition m s (boundary_turn m next (s.envelopes + 1) (s.rows + rows))
@@ -158,8 +162,8 @@ module _ (edition : Edition) (m : Bytes) (s : State) (sound : Sound m s) where
       let c = sound.few_rows in
       record { same = by.same; further = boundary_further m next (s.envelopes + 1) (s.rows + rows) by.inside (omega arith) (omega arith) s.at (omega arith) }
 
-  whole_by : (step : Step) → read_envelope edition s.first (drop s.at m) ≡ step → StepSo edition s.first (drop s.at m) step → (rows : ℕ) → shown m step ≡ Whole rows
-      → (rows ≤ length m) × (Accepted (record { envelopes = s.envelopes + 1; rows = s.rows + rows }) ≡ result_of edition m s)
+  whole_by : (step : Step) → read_envelope edition s.first (drop s.at m) ≡ step → StepSo edition s.first (drop s.at m) step → (rows : ℕ) → placed s.at (shown m step) ≡ Ok (Whole rows)
+      → (rows ≤ length m) × (Ok (record { envelopes = s.envelopes + 1; rows = s.rows + rows }) ≡ result_of edition m s)
   whole_by (closed e left) is so rows found = let z : ◌≡◌ {A = ℕ} 0 1 = cc in absurd (omega arith)
   whole_by (whole e) is so rows found =
       let its : row_count e ≡ rows = cc in
@@ -167,36 +171,23 @@ module _ (edition : Edition) (m : Bytes) (s : State) (sound : Sound m s) where
       let bytes_long = ap length so.bytes in
       let long = length-drop s.at m in
       let sum : s.rows + rows ≡ s.rows + (row_count e + 0) = omega arith in
-      (omega arith, ap (λ n. Accepted (record { envelopes = s.envelopes + 1; rows = n })) sum ∙ sym (result_by (whole e) is))
+      (omega arith, ap (λ n. Ok (record { envelopes = s.envelopes + 1; rows = n })) sum ∙ sym (result_by (whole e) is))
   whole_by (refuse r) is so rows found = let z : ◌≡◌ {A = ℕ} 0 1 = cc in absurd (omega arith)
   whole_by (refuse_at r from) is so rows found = let z : ◌≡◌ {A = ℕ} 0 1 = cc in absurd (omega arith)
 
-  pub turn_whole : (rows : ℕ) → shown m (read_envelope edition s.first (drop s.at m)) ≡ Whole rows
-      → (rows ≤ length m) × (Accepted (record { envelopes = s.envelopes + 1; rows = s.rows + rows }) ≡ result_of edition m s)
+  pub turn_whole : (rows : ℕ) → placed s.at (shown m (read_envelope edition s.first (drop s.at m))) ≡ Ok (Whole rows)
+      → (rows ≤ length m) × (Ok (record { envelopes = s.envelopes + 1; rows = s.rows + rows }) ≡ result_of edition m s)
   turn_whole rows found = whole_by (read_envelope edition s.first (drop s.at m)) refl (step_so edition s.first (drop s.at m)) rows found
 
-  refused_by : (step : Step) → read_envelope edition s.first (drop s.at m) ≡ step → (r : Reason) → shown m step ≡ Refused r → RefusedReading (record { reason = r; place = s.at }) ≡ result_of edition m s
+  refused_by : (step : Step) → read_envelope edition s.first (drop s.at m) ≡ step → (r : Refusal) → placed s.at (shown m step) ≡ Err r → Err r ≡ result_of edition m s
   refused_by (closed e left) is r found = let z : ◌≡◌ {A = ℕ} 0 1 = cc in absurd (omega arith)
   refused_by (whole e) is r found = let z : ◌≡◌ {A = ℕ} 0 1 = cc in absurd (omega arith)
-  refused_by (refuse r') is r found =
-      let why : r ≡ r' = cc in
+  refused_by (refuse why) is r found =
       let long = length-drop s.at m in
       let within = sound.inside in
       let place : s.at ≡ place_of m (drop s.at m) = omega arith in
-      (λ i. RefusedReading (record { reason = why i; place = place i })) ∙ sym (result_by (refuse r') is)
-  refused_by (refuse_at r' from) is r found = let z : ◌≡◌ {A = ℕ} 0 1 = cc in absurd (omega arith)
+      ap Err (ap (refusal_in r) (sym found)) ∙ (λ i. Err (record { reason = why; place = place i })) ∙ sym (result_by (refuse why) is)
+  refused_by (refuse_at why from) is r found = ap Err (ap (refusal_in r) (sym found)) ∙ sym (result_by (refuse_at why from) is)
 
-  pub turn_refused : (r : Reason) → shown m (read_envelope edition s.first (drop s.at m)) ≡ Refused r → RefusedReading (record { reason = r; place = s.at }) ≡ result_of edition m s
+  pub turn_refused : (r : Refusal) → placed s.at (shown m (read_envelope edition s.first (drop s.at m))) ≡ Err r → Err r ≡ result_of edition m s
   turn_refused r found = refused_by (read_envelope edition s.first (drop s.at m)) refl r found
-
-  refused_at_by : (step : Step) → read_envelope edition s.first (drop s.at m) ≡ step → (r : Reason) (p : ℕ) → shown m step ≡ RefusedAt r p → RefusedReading (record { reason = r; place = p }) ≡ result_of edition m s
-  refused_at_by (closed e left) is r p found = let z : ◌≡◌ {A = ℕ} 0 1 = cc in absurd (omega arith)
-  refused_at_by (whole e) is r p found = let z : ◌≡◌ {A = ℕ} 0 1 = cc in absurd (omega arith)
-  refused_at_by (refuse r') is r p found = let z : ◌≡◌ {A = ℕ} 0 1 = cc in absurd (omega arith)
-  refused_at_by (refuse_at r' from) is r p found =
-      let why : r ≡ r' = cc in
-      let place : p ≡ place_of m from = cc in
-      (λ i. RefusedReading (record { reason = why i; place = place i })) ∙ sym (result_by (refuse_at r' from) is)
-
-  pub turn_refused_at : (r : Reason) (p : ℕ) → shown m (read_envelope edition s.first (drop s.at m)) ≡ RefusedAt r p → RefusedReading (record { reason = r; place = p }) ≡ result_of edition m s
-  turn_refused_at r p found = refused_at_by (read_envelope edition s.first (drop s.at m)) refl r p found

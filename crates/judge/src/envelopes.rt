@@ -9,48 +9,45 @@ use crate::{State, Turn};
 use envelope::{Found, judge_envelope};
 use label::{Counts, Edition, HEADER_LENGTH, Reading, Reason, Refusal};
 use leaves::EOT;
-
-fn refused(reason: Reason, place: usize) -> Turn
-    ensures { result ≡ Turn.Done (Reading.Refused (record { reason = reason; place = place })) }
-{
-    Turn::Done(Reading::Refused(Refusal { reason, place }))
-}
+use std::ops::ControlFlow::{Break, Continue};
 
 // At a boundary after an envelope, with the counts so far: 4, then EOT with 5, then the next envelope.
-fn boundary(m: &[u8], at: usize, envelopes: usize, rows: usize) -> Turn
+fn boundary(m: &[u8], at: usize, envelopes: usize, rows: usize) -> Result<Turn, Refusal>
     requires { at ≤ length m.now }
     ensures { result ≡ boundary_turn m.now at envelopes rows }
 {
     if m.len() <= at {
-        return refused(Reason::NoTrailer, at);
+        return Err(Refusal {
+            reason: Reason::NoTrailer,
+            place: at,
+        });
     }
     if m[at] != EOT {
-        return Turn::Go(State {
+        return Ok(Continue(State {
             at,
             first: false,
             envelopes,
             rows,
-        });
+        }));
     }
     if m.len() <= at + 1 {
-        return Turn::Done(Reading::Accepted(Counts { envelopes, rows }));
+        return Ok(Break(Counts { envelopes, rows }));
     }
-    refused(Reason::BytesAfterTrailer, at + 1)
+    Err(Refusal {
+        reason: Reason::BytesAfterTrailer,
+        place: at + 1,
+    })
 }
 
 // One envelope, and what follows it.
-fn turn(edition: Edition, m: &[u8], s: State) -> Turn
+fn turn(edition: Edition, m: &[u8], s: State) -> Result<Turn, Refusal>
     requires { Sound m.now s }
     ensures { TurnSo edition m.now s result }
 {
-    let at = s.at;
     let envelopes = s.envelopes;
     let rows = s.rows;
-    let found = judge_envelope(edition, m, at, s.first);
-    match found {
-        Found::Refused(reason) => refused(reason, at),
-        Found::RefusedAt(reason, place) => refused(reason, place),
-        Found::Whole(n) => Turn::Done(Reading::Accepted(Counts {
+    match judge_envelope(edition, m, s.at, s.first)? {
+        Found::Whole(n) => Ok(Break(Counts {
             envelopes: envelopes + 1,
             rows: rows + n,
         })),
@@ -70,10 +67,9 @@ pub(crate) fn walk_envelopes(edition: Edition, m: &[u8]) -> Reading
         rows: 0,
     };
     loop {
-        let t = turn(edition, m, s);
-        match t {
-            Turn::Done(r) => return r,
-            Turn::Go(next) => s = next,
+        match turn(edition, m, s)? {
+            Break(counts) => return Ok(counts),
+            Continue(next) => s = next,
         }
     }
 }

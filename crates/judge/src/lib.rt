@@ -5,9 +5,10 @@ mod envelopes;
 
 ghost use Rattle.std.specs.Prelude.{◌≡◌};
 ghost use Rattle.label.specs.ReadMessage.{reading};
-ghost use Rattle.judge.specs.Shown.{judged_as, limited};
+ghost use Rattle.judge.specs.Shown.{judged_as};
 
-use label::{Edition, HEADER, LONGEST, MOST_ROWS, Reading, Reason, Refusal};
+use label::{Counts, Edition, HEADER, LONGEST, MOST_ROWS, Reading, Reason, Refusal};
+use std::ops::ControlFlow;
 
 // Where the walk stands: the offset at which an envelope is due, whether it is the first, and what was counted so far.
 #[derive(Clone, Copy)]
@@ -18,45 +19,31 @@ pub struct State {
     pub rows: usize,
 }
 
-// The message's reading, or where the walk goes on.
-#[derive(Clone, Copy)]
-pub enum Turn {
-    Done(Reading),
-    Go(State),
-}
+// What a turn comes to: the counts of a message that ends here, or where the walk goes on.
+pub type Turn = ControlFlow<Counts, State>;
 
-fn refusal(reason: Reason, place: usize) -> Reading
-    ensures { result ≡ Reading.Refused (record { reason = reason; place = place }) }
-{
-    Reading::Refused(Refusal { reason, place })
-}
-
-// Only when all envelopes stand: 13.
-fn within_rows(r: Reading) -> Reading
-    ensures { result ≡ limited r }
-{
-    match r {
-        Reading::Accepted(counts) => {
-            if MOST_ROWS < counts.rows {
-                return refusal(Reason::TooManyRows, 0);
-            }
-            Reading::Accepted(counts)
-        }
-        Reading::Refused(f) => Reading::Refused(f),
-    }
-}
-
-// The reading of a message in an edition, whatever table is lent: 1, 2, then its envelopes, then 13.
+// The reading of a message in an edition, whatever table is lent: 1, 2, then its envelopes, then 13, only when all envelopes stand.
 pub fn judge(edition: Edition, m: &[u8]) -> Reading
     ensures { result ≡ judged_as (reading edition m.now) }
 {
     if LONGEST < m.len() {
-        return refusal(Reason::TooLong, LONGEST);
+        return Err(Refusal {
+            reason: Reason::TooLong,
+            place: LONGEST,
+        });
     }
     if !tallies::is_headed(m) {
-        let header = HEADER;
-        let agreed = tallies::agree(m, 0, &header);
-        return refusal(Reason::NoMessageHeader, agreed);
+        return Err(Refusal {
+            reason: Reason::NoMessageHeader,
+            place: tallies::agree(m, 0, &HEADER),
+        });
     }
-    within_rows(envelopes::walk_envelopes(edition, m))
+    let counts = envelopes::walk_envelopes(edition, m)?;
+    if MOST_ROWS < counts.rows {
+        return Err(Refusal {
+            reason: Reason::TooManyRows,
+            place: 0,
+        });
+    }
+    Ok(counts)
 }

@@ -1,6 +1,7 @@
 -- What the two editions have in common, and where they differ (02, No. 3): what the edition of 2005 accepts is read in that of 2025 as the same list, and
 -- the two answer the same but for a message that the edition of 2005 refuses with 6 where the indicator of an added format stands. The argument follows
 -- the walk: at each envelope the editions take the same step, or that of 2005 stops there.
+use Rattle.std.specs.Prelude.{None, Some, Option}
 use Prim.Native.Nat.{ℕ, zero, suc}
 use mathlib.Core.Path.{◌≡◌, refl, sym, ap, ◌∙◌, subst}
 use mathlib.Core.Bool.{Bool, true, false, ◌&&◌, cond, true≢false}
@@ -16,8 +17,6 @@ use Rattle.label.specs.declared.Reason.TheVariants.{TooLong, NoMessageHeader, No
 use Rattle.label.specs.declared.WriteReason.TheVariants.{BadRows, NoSuchMessage}
 use Rattle.label.specs.declared.Edition.{Edition}
 use Rattle.label.specs.declared.Edition.TheVariants.{Edition2005, Edition2025}
-use Rattle.label.specs.declared.BodyFault.{BodyFault}
-use Rattle.label.specs.declared.BodyFault.TheVariants.{InPiece, OfWhole}
 use Rattle.label.specs.Bytes.{Bytes, EOT, GS, RS, digit, between, every, is_empty}
 use Rattle.label.specs.Limits.{longest}
 use Rattle.label.specs.Pieces.{Cut, found, absent, cut}
@@ -43,6 +42,7 @@ use Rattle.label.proofs.EnvelopeSound.{StepSo, step_so}
 use Rattle.label.proofs.Places.{place_of_rest}
 use Rattle.label.proofs.ReadingSound.{begins}
 use Rattle.label.proofs.Promises.{place_as_stated, accepted_is_good, good_is_read}
+use Rattle.label.specs.declared.Refusal.{Refusal}
 
 -- One step
 
@@ -170,14 +170,14 @@ must_known : (t : Bool) (r : Reason) (s : Step) → says_unknown (refuse r) ≡ 
 must_known true r s other known = known
 must_known false r s other known = other
 
-bodied_known : (permitted : ℕ → Bool) (rules : Bytes → Bool) (fault : Bytes → BodyFault) (made : Bytes → Envelope) (bs : Bytes) → says_unknown (bodied permitted rules fault made bs) ≡ false
+bodied_known : (permitted : ℕ → Bool) (rules : Bytes → Bool) (fault : Bytes → Option Refusal) (made : Bytes → Envelope) (bs : Bytes) → says_unknown (bodied permitted rules fault made bs) ≡ false
 unfolding bodied
 bodied_known permitted rules fault made bs = by (cut RS bs)
   where
-    by_rules : (t : Bool) (x : BodyFault) (body left : Bytes) → says_unknown (cond t (closed (made body) left) (broken bs x)) ≡ false
+    by_rules : (t : Bool) (x : Option Refusal) (body left : Bytes) → says_unknown (cond t (closed (made body) left) (broken bs x)) ≡ false
     by_rules true x body left = refl
-    by_rules false OfWhole body left = refl
-    by_rules false (InPiece reason at) body left = refl
+    by_rules false None body left = refl
+    by_rules false (Some fault) body left = refl
 
     by : (c : Cut) → says_unknown (body_at permitted rules (λ body. broken bs (fault body)) made c) ≡ false
     by absent = refl

@@ -1,9 +1,9 @@
 -- What the writer composes: the good message with the items that the rows name, if there is one, and then the answer, by rows, message and room. Composing
 -- is rendering and reading back; a good message is what its items render to, so no good message is missed.
+use Rattle.std.specs.Prelude.{None, Option, Some}
 use Prim.Native.Nat.{ℕ, ◌≤◌, ◌<◌}
 use mathlib.Core.Path.{◌≡◌, refl, sym, ap, ◌∙◌, subst}
 use mathlib.Core.Bool.{Bool, true, false, ◌&&◌, cond, false≢true}
-use mathlib.Core.Option.{Option, none, some}
 use mathlib.Core.List.{List, [], ◌∷◌}
 use native.Mathlib.Omega.{arith}
 use borrow.Author.Tests.{ltb-true, ltb-false, le-ltb, lt-ltb}
@@ -37,14 +37,14 @@ module _ (edition : Edition) where
   one_rendered m m' es es' good good' same = sym (rendered_good edition m es good) ∙ ap rendered same ∙ rendered_good edition m' es' good'
 
   -- what is composed is a good message with these items and ordinals
-  pub composed_good : (is : List Item) (os : List ℕ) (w : Bytes) → composed edition is os ≡ some w → MessageWith edition is os w
+  pub composed_good : (is : List Item) (os : List ℕ) (w : Bytes) → composed edition is os ≡ Some w → MessageWith edition is os w
   unfolding composed
   composed_good is os w says = by (reading edition (rendered is)) (reading_so edition (rendered is)) says
     where
-      by : (o : Outcome) → ReadingSo edition (rendered is) o → if_same is os (rendered is) o ≡ some w → MessageWith edition is os w
+      by : (o : Outcome) → ReadingSo edition (rendered is) o → if_same is os (rendered is) o ≡ Some w → MessageWith edition is os w
       by (read es) good says = by_items (same_items (items_of (message_parts es)) is && same_ordinals (ordinals_of es) os) refl says
         where
-          by_items : (t : Bool) → (same_items (items_of (message_parts es)) is && same_ordinals (ordinals_of es) os) ≡ t → cond t (some (rendered is)) none ≡ some w → MessageWith edition is os w
+          by_items : (t : Bool) → (same_items (items_of (message_parts es)) is && same_ordinals (ordinals_of es) os) ≡ t → cond t (Some (rendered is)) None ≡ Some w → MessageWith edition is os w
           by_items true same says =
               let is_written : rendered is ≡ w = cc in
               let k = both (same_items (items_of (message_parts es)) is) (same_ordinals (ordinals_of es) os) same in
@@ -58,24 +58,24 @@ module _ (edition : Edition) where
       by (refused r p) so says = let z : ◌≡◌ {A = ℕ} 0 1 = cc in absurd (omega arith)
 
   -- a good message is composed from its items and ordinals
-  good_composed : (is : List Item) (os : List ℕ) (m : Bytes) → MessageWith edition is os m → composed edition is os ≡ some m
+  good_composed : (is : List Item) (os : List ℕ) (m : Bytes) → MessageWith edition is os m → composed edition is os ≡ Some m
   unfolding composed
   good_composed is os m with =
       let renders : rendered is ≡ m = ap rendered (sym with.items) ∙ rendered_good edition m with.envelopes with.good in
       (λ i. if_same is os (renders i) (reading edition (renders i)))
       ∙ ap (if_same is os m) (reading_pass edition m with.envelopes with.good)
-      ∙ ap (λ t. cond t (some m) none)
+      ∙ ap (λ t. cond t (Some m) None)
       (and_both (ap (λ js. same_items js is) with.items ∙ items_same is) (ap (λ ps. same_ordinals ps os) with.ordinals ∙ bytes_same os))
 
   -- Ordinals by counting: those that the items' kinds come to are the only ones with which a message is composed
 
   module _ (is : List Item) (os : List ℕ) where
-    pub composed_not_counted : same_ordinals (by_counting (item_kinds is)) os ≡ false → composed edition is os ≡ none
+    pub composed_not_counted : same_ordinals (by_counting (item_kinds is)) os ≡ false → composed edition is os ≡ None
     composed_not_counted other = by (composed edition is os) refl
       where
-        by : (c : Option Bytes) → composed edition is os ≡ c → c ≡ none
-        by none says = refl
-        by (some w) says =
+        by : (c : Option Bytes) → composed edition is os ≡ c → c ≡ None
+        by None says = refl
+        by (Some w) says =
             let with = composed_good is os w says in
             let own : by_counting (item_kinds is) ≡ os = ap (λ js. by_counting (item_kinds js)) (sym with.items) ∙ sym (items_counted with.envelopes) ∙ with.ordinals in
             absurd (false≢true (sym other ∙ ap (λ ps. same_ordinals ps os) own ∙ bytes_same os))
@@ -102,18 +102,18 @@ module _ (edition : Edition) where
 
     pub writes : (m : Bytes) → rows_stand held ns ≡ true → MessageWith edition (items_in held ns) (ordinals_in ns) m → (room : ℕ) → length m ≤ room → writing edition held ns room ≡ written m
     writes m stand with room enough =
-        rows_fit room (some m) stand (good_composed (items_in held ns) (ordinals_in ns) m with) ∙ ap (λ t. cond t (declined NoOutputRoom) (written m)) (le-ltb room (length m) enough)
+        rows_fit room (Some m) stand (good_composed (items_in held ns) (ordinals_in ns) m with) ∙ ap (λ t. cond t (declined NoOutputRoom) (written m)) (le-ltb room (length m) enough)
 
     pub lacks_room : (m : Bytes) → rows_stand held ns ≡ true → MessageWith edition (items_in held ns) (ordinals_in ns) m → (room : ℕ) → room < length m → writing edition held ns room ≡ declined NoOutputRoom
     lacks_room m stand with room short =
-        rows_fit room (some m) stand (good_composed (items_in held ns) (ordinals_in ns) m with) ∙ ap (λ t. cond t (declined NoOutputRoom) (written m)) (lt-ltb room (length m) short)
+        rows_fit room (Some m) stand (good_composed (items_in held ns) (ordinals_in ns) m with) ∙ ap (λ t. cond t (declined NoOutputRoom) (written m)) (lt-ltb room (length m) short)
 
     pub none_written : rows_stand held ns ≡ true → NoMessageWith edition (items_in held ns) (ordinals_in ns) → (room : ℕ) → writing edition held ns room ≡ declined NoSuchMessage
     none_written stand none_good room = by (composed edition (items_in held ns) (ordinals_in ns)) refl
       where
         by : (c : Option Bytes) → composed edition (items_in held ns) (ordinals_in ns) ≡ c → writing edition held ns room ≡ declined NoSuchMessage
-        by none is = rows_fit room none stand is
-        by (some m) is = let with = composed_good (items_in held ns) (ordinals_in ns) m is in absurd (none_good m with.envelopes with.good with.items with.ordinals)
+        by None is = rows_fit room None stand is
+        by (Some m) is = let with = composed_good (items_in held ns) (ordinals_in ns) m is in absurd (none_good m with.envelopes with.good with.items with.ordinals)
 
     -- what an answer tells of the rows, the items and the room
     abbrev pub WritingSo : ℕ → Composition → Type 0
@@ -132,9 +132,9 @@ module _ (edition : Edition) where
         by_room m false enough stand with = (stand, ltb-false room (length m) enough, with)
 
         by_message : (c : Option Bytes) → composed edition (items_in held ns) (ordinals_in ns) ≡ c → rows_stand held ns ≡ true → WritingSo room (fitting room c)
-        by_message none is stand =
+        by_message None is stand =
             (stand, λ m es good items ordinals. let z : ◌≡◌ {A = ℕ} 0 1 = cc (good_composed (items_in held ns) (ordinals_in ns) m (record { envelopes = es; good = good; items = items; ordinals = ordinals })) in omega arith)
-        by_message (some m) is stand = by_room m (ltb room (length m)) refl stand (composed_good (items_in held ns) (ordinals_in ns) m is)
+        by_message (Some m) is stand = by_room m (ltb room (length m)) refl stand (composed_good (items_in held ns) (ordinals_in ns) m is)
 
         by_rows : (t : Bool) → rows_stand held ns ≡ t → WritingSo room (cond t (fitting room (composed edition (items_in held ns) (ordinals_in ns))) (declined BadRows))
         by_rows true stand = by_message (composed edition (items_in held ns) (ordinals_in ns)) refl stand

@@ -1,8 +1,8 @@
 -- An envelope within its rules, written and then RS, is read as just that envelope, and what follows the RS is left; one of format 02 takes all.
+use Rattle.std.specs.Prelude.{Option, Some}
 use Prim.Native.Nat.{ℕ, ◌<◌}
 use mathlib.Core.Path.{◌≡◌, refl, sym, ap, ◌∙◌, subst}
 use mathlib.Core.Bool.{Bool, true, false, not, ◌||◌, cond, false≢true, true≢false}
-use mathlib.Core.Option.{some}
 use mathlib.Core.List.{List, [], ◌∷◌, ◌++◌, map, append_assoc}
 use native.Mathlib.Omega.{arith}
 use borrow.Author.Tests.{lt-ltb, eq-eqb, leb-true}
@@ -12,11 +12,12 @@ use lib.Dec.{leb, eqb}
 use Rattle.label.specs.declared.Limit.{Limit}
 use Rattle.label.specs.declared.Reason.{Reason}
 use Rattle.label.specs.declared.Reason.TheVariants.{BadFormatHeader}
-use Rattle.label.specs.declared.BodyFault.{BodyFault}
 use Rattle.label.specs.Bytes.{Bytes, EOT, FS, GS, RS, US, control, plain, digit, below80, every, is_empty}
 use Rattle.label.specs.Limits.{long_as, ◌to◌}
 use Rattle.label.specs.Pieces.{pieces, last_is_empty}
-use Rattle.label.specs.Values.{Version, version02, version96, version_digits, release_length, release, header_value, header_values, count, value}
+use Rattle.label.specs.Values.{version_digits, release_length, release, header_value, header_values, count, value}
+use Rattle.label.specs.declared.Version.{Version}
+use Rattle.label.specs.declared.Version.TheVariants.{Version02, Version96}
 use Rattle.label.specs.Segments.{Segment, tagged}
 use Rattle.label.specs.Fields.{transport}
 use Rattle.label.specs.Faults.{fields_fault, elements_fault, whole_fault}
@@ -34,6 +35,7 @@ use Rattle.label.proofs.Laid.{segment_bytes, content_bytes, format_of, bytes_env
 use Rattle.label.proofs.SegmentLaws.{body_of, body_bytes, body_pieces, segments_again}
 use Rattle.label.proofs.Editions.{is_known, each_rule}
 use Rattle.label.proofs.Digits.{two_digits_lem, known_small}
+use Rattle.label.specs.declared.Refusal.{Refusal}
 
 -- Steps of a reading
 
@@ -44,14 +46,14 @@ valued_pass : (test : Bytes → Bool) (v rest : Bytes) (next : Bytes → Bytes �
 valued_pass test v rest next none_inside passes = ap (valued_at test next) (cut_front GS v rest none_inside) ∙ must_pass (test v) _ _ passes
 
 -- a body whose bytes are permitted, by whether its rules hold
-bodied_by : (permitted : ℕ → Bool) (rules : Bytes → Bool) (fault : Bytes → BodyFault) (made : Bytes → Envelope) (body left : Bytes) → Without RS permitted → every permitted body ≡ true
+bodied_by : (permitted : ℕ → Bool) (rules : Bytes → Bool) (fault : Bytes → Option Refusal) (made : Bytes → Envelope) (body left : Bytes) → Without RS permitted → every permitted body ≡ true
     → bodied permitted rules fault made (body ++ (RS ∷ left)) ≡ cond (rules body) (closed (made body) left) (broken (body ++ (RS ∷ left)) (fault body))
 unfolding bodied
 bodied_by permitted rules fault made body left without p =
     ap (body_at permitted rules (λ b. broken (body ++ (RS ∷ left)) (fault b)) made) (cut_front RS body left (free_of RS permitted without body p))
     ∙ must_pass (every permitted body) _ _ p
 
-bodied_pass : (permitted : ℕ → Bool) (rules : Bytes → Bool) (fault : Bytes → BodyFault) (made : Bytes → Envelope) (body left : Bytes)
+bodied_pass : (permitted : ℕ → Bool) (rules : Bytes → Bool) (fault : Bytes → Option Refusal) (made : Bytes → Envelope) (body left : Bytes)
     → Without RS permitted → every permitted body ≡ true → rules body ≡ true → bodied permitted rules fault made (body ++ (RS ∷ left)) ≡ closed (made body) left
 bodied_pass permitted rules fault made body left without p r = bodied_by permitted rules fault made body left without p ∙ cond_yes (rules body) _ _ r
 
@@ -120,7 +122,7 @@ free_pieces : (c : ℕ) → c < 0x20 → (ps : List Bytes) → every (every plai
 free_pieces c before ps h = every_implies (every plain) (free c) (free_of c plain (plain_without c before)) ps h
 
 -- a body of pieces between GS, for any rule of the pieces
-module _ (rules : List Bytes → Bool) (fault : Bytes → BodyFault) (made : List Bytes → Envelope) (ps : List Bytes) (left : Bytes) (one : is_empty ps ≡ false) (p : every (every plain) ps ≡ true) where
+module _ (rules : List Bytes → Bool) (fault : Bytes → Option Refusal) (made : List Bytes → Envelope) (ps : List Bytes) (left : Bytes) (one : is_empty ps ≡ false) (p : every (every plain) ps ≡ true) where
   pub pieces_back : pieces GS (joined GS ps) ≡ ps
   pieces_back = pieces_of_joined GS ps one (free_pieces GS (omega arith) ps p)
 
@@ -143,17 +145,17 @@ unfolding transport
 fields_some v [] h = absurd (false≢true h)
 fields_some v (f ∷ fs) h = refl
 
-version_pass : (v : Version) (rest : Bytes) → version_of (take 2 (version_digits v ++ rest)) ≡ some v
+version_pass : (v : Version) (rest : Bytes) → version_of (take 2 (version_digits v ++ rest)) ≡ Some v
 unfolding version_of
-version_pass version02 rest = refl
-version_pass version96 rest = refl
+version_pass Version02 rest = refl
+version_pass Version96 rest = refl
 
 behind_version : (v : Version) (rest : Bytes) → drop 2 (version_digits v ++ rest) ≡ rest
-behind_version version02 rest = refl
-behind_version version96 rest = refl
+behind_version Version02 rest = refl
+behind_version Version96 rest = refl
 
 -- behind the header, the fields
-pub fields_read : (f : ℕ) (v : Version) (rest : Bytes) → read_transport f (GS ∷ (version_digits v ++ rest)) ≡ read_fields f (some v) rest
+pub fields_read : (f : ℕ) (v : Version) (rest : Bytes) → read_transport f (GS ∷ (version_digits v ++ rest)) ≡ read_fields f (Some v) rest
 unfolding read_transport
 fields_read f v rest = λ i. read_fields f (version_pass v rest i) (behind_version v rest i)
 

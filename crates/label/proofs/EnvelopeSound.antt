@@ -1,9 +1,9 @@
 -- What is read as an envelope is one: it is within its rules, and what was read is what it writes. What is refused in its body has that fault. The argument
 -- follows the reading: each test that was passed is a fact about the bytes, and at the end the facts are the envelope's rules.
+use Rattle.std.specs.Prelude.{None, Option, Some}
 use Prim.Native.Nat.{ℕ, ◌+◌, ◌<◌}
 use mathlib.Core.Path.{◌≡◌, refl, sym, ap, ◌∙◌, subst}
 use mathlib.Core.Bool.{Bool, true, false, not, ◌&&◌, ◌||◌, cond, true≢false, false≢true}
-use mathlib.Core.Option.{Option, none, some}
 use mathlib.Core.List.{List, [], ◌∷◌, ◌++◌, map, append_assoc}
 use native.Mathlib.Omega.{arith}
 use native.Mathlib.Numerals.{add-one}
@@ -14,10 +14,11 @@ use lib.Dec.{ltb, eqb}
 use Rattle.label.specs.declared.Limit.{Limit}
 use Rattle.label.specs.declared.Reason.{Reason}
 use Rattle.label.specs.declared.Reason.TheVariants.{TooLong, NoMessageHeader, NoIndicator, NoTrailer, BytesAfterTrailer, UnknownFormat, NotFirst, BadFormatHeader, PayloadDoesNotFit, ByteNotPermitted, BodyBreaksRules, NoRecordSeparator, TooManyRows, NoRoom, BadFieldCount, FieldTooShort, FieldTooLong, BadFieldBytes}
-use Rattle.label.specs.declared.BodyFault.{BodyFault}
 use Rattle.label.specs.Bytes.{Bytes, FS, GS, RS, US, plain, digit, every, is_empty, same_bytes}
 use Rattle.label.specs.Pieces.{pieces, last_is_empty, Cut, found, absent, cut}
-use Rattle.label.specs.Values.{Version, version02, version96, version_digits, release_length, release, header_value, header_values, count, value}
+use Rattle.label.specs.Values.{version_digits, release_length, release, header_value, header_values, count, value}
+use Rattle.label.specs.declared.Version.{Version}
+use Rattle.label.specs.declared.Version.TheVariants.{Version02, Version96}
 use Rattle.label.specs.Segments.{tagged}
 use Rattle.label.specs.Fields.{transport}
 use Rattle.label.specs.Faults.{fields_fault_by, fields_fault, elements_fault, whole_fault}
@@ -36,6 +37,7 @@ use Rattle.label.proofs.Laid.{segment_bytes, value_bytes, content_bytes, format_
 use Rattle.label.proofs.Faults.{Ahead, elements_fault_so, elements_ahead, fields_fault_so, fields_ahead}
 use Rattle.label.proofs.SegmentLaws.{segments_back, plain_segments}
 use Rattle.label.proofs.Digits.{digits_two}
+use Rattle.label.specs.declared.Refusal.{Refusal}
 
 -- the reasons that an envelope is refused for before its body's rules are asked: 3, 6 to 10 and 12
 abbrev pub BeforeRules : Reason → Type 0
@@ -89,7 +91,7 @@ module _ (Claim : Step → Type 0) (refusal : (r : Reason) → BeforeRules r →
       values_so ls rest (λ vs. next (v ∷ vs)) λ vs left e' are.
       h (v ∷ vs) left (e ∙ ap (λ x. v ++ (GS ∷ x)) e' ∙ sym (append_assoc v (GS ∷ terminated GS vs) left)) (and_both is_value are)
 
-  bodied_so : (permitted : ℕ → Bool) (rules : Bytes → Bool) (fault : Bytes → BodyFault) (made : Bytes → Envelope) (bs : Bytes)
+  bodied_so : (permitted : ℕ → Bool) (rules : Bytes → Bool) (fault : Bytes → Option Refusal) (made : Bytes → Envelope) (bs : Bytes)
       → ((body left : Bytes) → bs ≡ body ++ (RS ∷ left) → every permitted body ≡ true → rules body ≡ false → Claim (broken bs (fault body)))
       → ((body left : Bytes) → bs ≡ body ++ (RS ∷ left) → every permitted body ≡ true → rules body ≡ true → Claim (closed (made body) left))
       → Claim (bodied permitted rules fault made bs)
@@ -146,13 +148,13 @@ or_true : (a : Bool) → (a || true) ≡ true
 or_true true = refl
 or_true false = refl
 
-pub version_so : (bs : Bytes) (v : Version) → version_of bs ≡ some v → bs ≡ version_digits v
+pub version_so : (bs : Bytes) (v : Version) → version_of bs ≡ Some v → bs ≡ version_digits v
 unfolding version_of
-version_so bs v h = by_tests (same_bytes bs (version_digits version02)) (same_bytes bs (version_digits version96)) refl refl h
+version_so bs v h = by_tests (same_bytes bs (version_digits Version02)) (same_bytes bs (version_digits Version96)) refl refl h
   where
-    by_tests : (s t : Bool) → same_bytes bs (version_digits version02) ≡ s → same_bytes bs (version_digits version96) ≡ t → cond s (some version02) (cond t (some version96) none) ≡ some v → bs ≡ version_digits v
-    by_tests true t p q e = let is : version02 ≡ v = cc in same_bytes_lem _ _ p ∙ ap version_digits is
-    by_tests false true p q e = let is : version96 ≡ v = cc in same_bytes_lem _ _ q ∙ ap version_digits is
+    by_tests : (s t : Bool) → same_bytes bs (version_digits Version02) ≡ s → same_bytes bs (version_digits Version96) ≡ t → cond s (Some Version02) (cond t (Some Version96) None) ≡ Some v → bs ≡ version_digits v
+    by_tests true t p q e = let is : Version02 ≡ v = cc in same_bytes_lem _ _ p ∙ ap version_digits is
+    by_tests false true p q e = let is : Version96 ≡ v = cc in same_bytes_lem _ _ q ∙ ap version_digits is
     by_tests false false p q e = let z : ◌≡◌ {A = ℕ} 0 1 = cc in absurd (omega arith)
 
 -- a payload of n bytes with RS behind it
@@ -235,7 +237,7 @@ module _ (edition : Edition) (first : Bool) where
       bodied_so (After f bs) before plain_or_gs (λ body. every is_element (pieces GS body)) (elements_fault is_element) (λ body. elements f (pieces GS body)) after
       (λ body left e p r.
       let found = elements_fault_so is_element (pieces GS body) r in
-      subst (λ (x : BodyFault). After f bs (broken after x)) (sym found.is)
+      subst (λ (x : Option Refusal). After f bs (broken after x)) (sym found.is)
       (piece_so (elements f (pieces GS body)) found.reason (ahead_of_element f found.front) (GS ∷ []) bs after (joined GS (pieces GS body)) left found.front
       record { is_element = is_element; known = known; one_or_more = pieces_some GS body; plain_bytes = plain_pieces body p; front = found.front; fault = found.fault; in_front_of_it = refl }
       (or_true first) (written after opens body left e) (ap (λ x. two_digits f ++ (GS ∷ x)) (bytes_each_ended GS piece_row f found.front)) opens (back after body left e)
@@ -253,13 +255,13 @@ module _ (edition : Edition) (first : Bool) where
       written : (after : Bytes) → bs ≡ GS ∷ after → (body left : Bytes) → after ≡ body ++ (RS ∷ left) → bs ≡ content_bytes (elements f (pieces GS body)) ++ (RS ∷ left)
       written after opens body left e = opens ∙ ap (λ x. GS ∷ x) (back after body left e)
 
-  fields_so : (f : ℕ) (v : Version) (bs rest : Bytes) → rule_of edition f ≡ as_fields → first ≡ true → bs ≡ GS ∷ (version_digits v ++ rest) → After f bs (read_fields f (some v) rest)
+  fields_so : (f : ℕ) (v : Version) (bs rest : Bytes) → rule_of edition f ≡ as_fields → first ≡ true → bs ≡ GS ∷ (version_digits v ++ rest) → After f bs (read_fields f (Some v) rest)
   unfolding read_fields fields_fault
   fields_so f v bs rest known is_first opens =
       bodied_so (After f bs) before plain_or_gs (λ body. transport v (pieces GS body)) (fields_fault v) (λ body. fields f v (pieces GS body)) rest
       (λ body left e p r.
       let found = fields_fault_so v (pieces GS body) r in
-      subst (λ (x : BodyFault). After f bs (broken rest x)) (sym (ap (λ x. fields_fault_by v (length x) (pieces GS body)) (sym (joined_pieces GS body)) ∙ found.is))
+      subst (λ (x : Option Refusal). After f bs (broken rest x)) (sym (ap (λ x. fields_fault_by v (length x) (pieces GS body)) (sym (joined_pieces GS body)) ∙ found.is))
       (piece_so (fields f v (pieces GS body)) found.reason (ahead_of_field f v found.front) (GS ∷ version_digits v) bs rest (joined GS (pieces GS body)) left found.front
       record { known = known; one_or_more = pieces_some GS body; plain_bytes = plain_pieces body p; front = found.front; fault = found.fault; in_front_of_it = refl }
       (or_left (not true) is_first) (written body left e) (ap (λ x. two_digits f ++ (GS ∷ (version_digits v ++ x))) (bytes_each_ended GS piece_row f found.front)) opens (back body left e)
@@ -285,8 +287,8 @@ module _ (edition : Edition) (first : Bool) where
       by_version after opens (version_of (take 2 after)) refl
     where
       by_version : (after : Bytes) → bs ≡ GS ∷ after → (o : Option Version) → version_of (take 2 after) ≡ o → After f bs (read_fields f o (drop 2 after))
-      by_version after opens none e = before_rules tt
-      by_version after opens (some v) e =
+      by_version after opens None e = before_rules tt
+      by_version after opens (Some v) e =
           fields_so f v bs (drop 2 after) known is_first
           (opens ∙ ap (λ x. GS ∷ x) (sym (take-append-drop 2 after) ∙ ap (λ x. x ++ drop 2 after) (version_so (take 2 after) v e)))
 

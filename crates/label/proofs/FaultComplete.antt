@@ -7,7 +7,8 @@ use native.Mathlib.Omega.{arith}
 use lib.ListN.{length, drop, length-append, length-drop}
 use Rattle.label.specs.declared.Reason.{Reason}
 use Rattle.label.specs.Bytes.{Bytes, GS, RS, every}
-use Rattle.label.specs.Values.{Version, version_digits}
+use Rattle.label.specs.Values.{version_digits}
+use Rattle.label.specs.declared.Version.{Version}
 use Rattle.label.specs.Fields.{transport}
 use Rattle.label.specs.Faults.{first_fault, element_fault, fields_fault_by, fields_fault, elements_fault}
 use Rattle.label.specs.declared.Edition.{Edition}

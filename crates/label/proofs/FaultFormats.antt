@@ -11,7 +11,7 @@ use lib.ListN.{get_or}
 use Rattle.label.specs.declared.Reason.{Reason}
 use Rattle.label.specs.declared.Reason.TheVariants.{BodyBreaksRules}
 use Rattle.label.specs.Bytes.{Bytes, RS, is_empty}
-use Rattle.label.specs.Values.{Version}
+use Rattle.label.specs.declared.Version.{Version}
 use Rattle.label.specs.declared.Edition.{Edition}
 use Rattle.label.specs.Formats.{rule_of, as_fields}
 use Rattle.label.specs.Layout.{bytes_of}

@@ -1,5 +1,6 @@
 -- A fault that is found is there, and one that is there is found: the first faulty piece of pieces, and what is wrong with fields and elements whose rules
 -- don't hold. The pieces in front of the faulty one, each with its separator, are as long as its offset says.
+use Rattle.std.specs.Prelude.{None, Option, Some}
 use Prim.Native.Nat.{ℕ, zero, suc, ◌+◌, ◌≤◌}
 use mathlib.Core.Path.{◌≡◌, refl, sym, ap, ◌∙◌}
 use mathlib.Core.Bool.{Bool, true, false, not, ◌&&◌, ◌||◌, cond, true≢false, false≢true}
@@ -11,20 +12,18 @@ use lib.Seq.{drop-nil}
 use lib.Dec.{leb, ltb}
 use Rattle.label.specs.declared.Reason.{Reason}
 use Rattle.label.specs.declared.Reason.TheVariants.{BodyBreaksRules, BadFieldCount, FieldTooShort, FieldTooLong, BadFieldBytes}
-use Rattle.label.specs.declared.PieceFault.{PieceFault}
-use Rattle.label.specs.declared.PieceFault.TheVariants.{Faulty, Faultless}
-use Rattle.label.specs.declared.BodyFault.{BodyFault}
-use Rattle.label.specs.declared.BodyFault.TheVariants.{InPiece}
 use Rattle.label.specs.Bytes.{Bytes, GS, plain, every}
 use Rattle.label.specs.Pieces.{last_is_empty, without_last}
 use Rattle.label.specs.declared.Limit.{Limit}
 use Rattle.label.specs.Limits.{limits, limit_of, long_as, ◌to◌}
-use Rattle.label.specs.Values.{Version, version02, version96}
+use Rattle.label.specs.declared.Version.{Version}
+use Rattle.label.specs.declared.Version.TheVariants.{Version02, Version96}
 use Rattle.label.specs.Fields.{field_bytes, version_row, least_fields, field, fields_from, transport}
-use Rattle.label.specs.Faults.{fault_or, first_fault, element_fault, left_out, field_fault, count_fits, fields_fault_by}
+use Rattle.label.specs.Faults.{fault_or, first_fault, element_fault, left_out, field_fault, count_fits, fields_fault_by, in_piece}
 use Rattle.label.specs.Lacking.{FieldLacks, too_short, too_long, bad_bytes, FieldsLack, bad_count, empty_last, at_field, ElementsLack, at_element}
 use Rattle.label.proofs.Tests.{both, and_both, right_fails, cond_yes, cond_no}
 use Rattle.label.proofs.Splitting.{behind, joined, terminated, last_of_terminated, terminated_without_last}
+use Rattle.label.specs.declared.Refusal.{Refusal}
 
 -- Pieces in front of one
 
@@ -53,34 +52,34 @@ terminated_longer c p ps at = omega (arith, length-append p (c ∷ terminated c 
 
 -- The first faulty piece
 
-abbrev is_faultless : PieceFault → Bool
-is_faultless (Faulty r) = false
-is_faultless Faultless = true
+abbrev is_faultless : Option Reason → Bool
+is_faultless (Some r) = false
+is_faultless None = true
 
 -- each faultless, numbered from i on
-abbrev faultless_from : (ℕ → Bytes → PieceFault) → ℕ → List Bytes → Bool
+abbrev faultless_from : (ℕ → Bytes → Option Reason) → ℕ → List Bytes → Bool
 faultless_from fault_of i [] = true
 faultless_from fault_of i (p ∷ ps) = is_faultless (fault_of i p) && faultless_from fault_of (i + 1) ps
 
 -- a piece with its reason, behind faultless ones, is what is found first
-record FirstFaulty (fault_of : ℕ → Bytes → PieceFault) (i at : ℕ) (ps : List Bytes) : Type 0 where
+record FirstFaulty (fault_of : ℕ → Bytes → Option Reason) (i at : ℕ) (ps : List Bytes) : Type 0 where
   front : List Bytes
   piece : Bytes
   more : List Bytes
   reason : Reason
   list : ps ≡ front ++ (piece ∷ more)
   faultless : faultless_from fault_of i front ≡ true
-  faulty : fault_of (i + length front) piece ≡ Faulty reason
-  found : first_fault fault_of i at ps ≡ InPiece reason (at + length (terminated GS front))
+  faulty : fault_of (i + length front) piece ≡ Some reason
+  found : first_fault fault_of i at ps ≡ in_piece reason (at + length (terminated GS front))
 
-module _ (fault_of : ℕ → Bytes → PieceFault) where
+module _ (fault_of : ℕ → Bytes → Option Reason) where
   first_so : (ps : List Bytes) (i at : ℕ) → faultless_from fault_of i ps ≡ false → FirstFaulty fault_of i at ps
   first_so [] i at not_all = absurd (true≢false not_all)
   first_so (p ∷ ps) i at not_all = by (fault_of i p) refl not_all (first_so ps (i + 1) (at + length p + 1))
     where
-      by : (x : PieceFault) → fault_of i p ≡ x → (is_faultless x && faultless_from fault_of (i + 1) ps) ≡ false
+      by : (x : Option Reason) → fault_of i p ≡ x → (is_faultless x && faultless_from fault_of (i + 1) ps) ≡ false
           → (faultless_from fault_of (i + 1) ps ≡ false → FirstFaulty fault_of (i + 1) (at + length p + 1) ps) → FirstFaulty fault_of i at (p ∷ ps)
-      by (Faulty r) is not_all among = record {
+      by (Some r) is not_all among = record {
         front = [];
         piece = p;
         more = ps;
@@ -88,9 +87,9 @@ module _ (fault_of : ℕ → Bytes → PieceFault) where
         list = refl;
         faultless = refl;
         faulty = ap (λ n. fault_of n p) (omega arith) ∙ is;
-        found = ap (λ x. fault_or x at (first_fault fault_of (i + 1) (at + length p + 1) ps)) is ∙ ap (InPiece r) (omega arith);
+        found = ap (λ x. fault_or x at (first_fault fault_of (i + 1) (at + length p + 1) ps)) is ∙ ap (in_piece r) (omega arith);
       }
-      by Faultless is not_all among =
+      by None is not_all among =
           let later = among not_all in
           record {
             front = p ∷ later.front;
@@ -102,27 +101,27 @@ module _ (fault_of : ℕ → Bytes → PieceFault) where
             faulty = ap (λ n. fault_of n later.piece) (omega arith) ∙ later.faulty;
             found = ap (λ x. fault_or x at (first_fault fault_of (i + 1) (at + length p + 1) ps)) is
                 ∙ later.found
-                ∙ ap (InPiece later.reason) (terminated_longer GS p later.front at);
+                ∙ ap (in_piece later.reason) (terminated_longer GS p later.front at);
           }
 
-  not_all_with : (front : List Bytes) (i : ℕ) (p : Bytes) (more : List Bytes) (r : Reason) → fault_of (i + length front) p ≡ Faulty r → faultless_from fault_of i (front ++ (p ∷ more)) ≡ false
+  not_all_with : (front : List Bytes) (i : ℕ) (p : Bytes) (more : List Bytes) (r : Reason) → fault_of (i + length front) p ≡ Some r → faultless_from fault_of i (front ++ (p ∷ more)) ≡ false
   not_all_with [] i p more r faulty = ap (λ x. is_faultless x && faultless_from fault_of (i + 1) more) (ap (λ n. fault_of n p) (omega arith) ∙ faulty)
   not_all_with (q ∷ front) i p more r faulty =
       right_fails (is_faultless (fault_of i q)) (not_all_with front (i + 1) p more r (ap (λ n. fault_of n p) (omega arith) ∙ faulty))
 
-  first_pass : (front : List Bytes) (i at : ℕ) (p : Bytes) (more : List Bytes) (r : Reason) → faultless_from fault_of i front ≡ true → fault_of (i + length front) p ≡ Faulty r
-      → first_fault fault_of i at (front ++ (p ∷ more)) ≡ InPiece r (at + length (terminated GS front))
+  first_pass : (front : List Bytes) (i at : ℕ) (p : Bytes) (more : List Bytes) (r : Reason) → faultless_from fault_of i front ≡ true → fault_of (i + length front) p ≡ Some r
+      → first_fault fault_of i at (front ++ (p ∷ more)) ≡ in_piece r (at + length (terminated GS front))
   first_pass [] i at p more r faultless faulty =
-      ap (λ x. fault_or x at (first_fault fault_of (i + 1) (at + length p + 1) more)) (ap (λ n. fault_of n p) (omega arith) ∙ faulty) ∙ ap (InPiece r) (omega arith)
+      ap (λ x. fault_or x at (first_fault fault_of (i + 1) (at + length p + 1) more)) (ap (λ n. fault_of n p) (omega arith) ∙ faulty) ∙ ap (in_piece r) (omega arith)
   first_pass (q ∷ front) i at p more r faultless faulty =
       let k = both (is_faultless (fault_of i q)) (faultless_from fault_of (i + 1) front) faultless in
       ap (λ x. fault_or x at (first_fault fault_of (i + 1) (at + length q + 1) (front ++ (p ∷ more)))) (none (fault_of i q) k.left)
       ∙ first_pass front (i + 1) (at + length q + 1) p more r k.right (ap (λ n. fault_of n p) (omega arith) ∙ faulty)
-      ∙ ap (InPiece r) (terminated_longer GS q front at)
+      ∙ ap (in_piece r) (terminated_longer GS q front at)
     where
-      none : (x : PieceFault) → is_faultless x ≡ true → x ≡ Faultless
-      none (Faulty r) is = absurd (false≢true is)
-      none Faultless is = refl
+      none : (x : Option Reason) → is_faultless x ≡ true → x ≡ None
+      none (Some r) is = absurd (false≢true is)
+      none None is = refl
 
 -- Elements
 
@@ -131,16 +130,16 @@ unfolding element_fault
 elements_agree is_element [] i = refl
 elements_agree is_element (e ∷ es) i = λ j. by (is_element e) j && elements_agree is_element es (i + 1) j
   where
-    by : (t : Bool) → is_faultless (cond t Faultless (Faulty BodyBreaksRules)) ≡ t
+    by : (t : Bool) → is_faultless (cond t None (Some BodyBreaksRules)) ≡ t
     by true = refl
     by false = refl
 
 -- what is found in a body: its reason, and how long the pieces in front of it are
-pub record FoundIn (Lacks : List Bytes → Reason → Type 0) (found : BodyFault) : Type 0 where
+pub record FoundIn (Lacks : List Bytes → Reason → Type 0) (found : Option Refusal) : Type 0 where
   pub front : List Bytes
   pub reason : Reason
   pub fault : Lacks front reason
-  pub is : found ≡ InPiece reason (length (terminated GS front))
+  pub is : found ≡ in_piece reason (length (terminated GS front))
 
 pub elements_fault_so : (is_element : Bytes → Bool) (es : List Bytes) → every is_element es ≡ false → FoundIn (ElementsLack is_element es) (first_fault (element_fault is_element) 0 0 es)
 unfolding element_fault
@@ -151,24 +150,24 @@ elements_fault_so is_element es broken =
       front = first.front;
       reason = first.reason;
       fault = at_element this.0 (sym (elements_agree is_element first.front 0) ∙ first.faultless) first.piece first.more first.list this.1;
-      is = first.found ∙ ap (InPiece first.reason) (omega arith);
+      is = first.found ∙ ap (in_piece first.reason) (omega arith);
     }
   where
-    by : {e : Bytes} (t : Bool) → is_element e ≡ t → (r : Reason) → cond t Faultless (Faulty BodyBreaksRules) ≡ Faulty r → (r ≡ BodyBreaksRules) × (is_element e ≡ false)
+    by : {e : Bytes} (t : Bool) → is_element e ≡ t → (r : Reason) → cond t None (Some BodyBreaksRules) ≡ Some r → (r ≡ BodyBreaksRules) × (is_element e ≡ false)
     by true is r faulty = let z : ◌≡◌ {A = ℕ} 0 1 = cc in absurd (omega arith)
     by false is r faulty = (cc, is)
 
-pub record Told (rules : Bool) (found : BodyFault) (front : List Bytes) (r : Reason) : Type 0 where
+pub record Told (rules : Bool) (found : Option Refusal) (front : List Bytes) (r : Reason) : Type 0 where
   pub broken : rules ≡ false
-  pub is : found ≡ InPiece r (length (terminated GS front))
+  pub is : found ≡ in_piece r (length (terminated GS front))
 
 pub elements_fault_pass : (is_element : Bytes → Bool) (es front : List Bytes) (r : Reason) → ElementsLack is_element es front r → Told (every is_element es) (first_fault (element_fault is_element) 0 0 es) front r
 unfolding element_fault
 elements_fault_pass is_element es front r (at_element why faultless e more list faulty) =
-    let this : element_fault is_element (length front) e ≡ Faulty r = cond_no (is_element e) _ _ faulty ∙ ap Faulty (sym why) in
+    let this : element_fault is_element (length front) e ≡ Some r = cond_no (is_element e) _ _ faulty ∙ ap Some (sym why) in
     record {
       broken = sym (elements_agree is_element es 0) ∙ ap (faultless_from (element_fault is_element) 0) list ∙ not_all_with (element_fault is_element) front 0 e more r this;
-      is = ap (first_fault (element_fault is_element) 0 0) list ∙ first_pass (element_fault is_element) front 0 0 e more r (elements_agree is_element front 0 ∙ faultless) this ∙ ap (InPiece r) (omega arith);
+      is = ap (first_fault (element_fault is_element) 0 0) list ∙ first_pass (element_fault is_element) front 0 0 e more r (elements_agree is_element front 0 ∙ faultless) this ∙ ap (in_piece r) (omega arith);
     }
 
 pub elements_ahead : (is_element : Bytes → Bool) (es front : List Bytes) (r : Reason) → ElementsLack is_element es front r → Ahead (joined GS es) front
@@ -191,8 +190,8 @@ ordered_in (l ∷ row) h zero = leb-true l.0 l.1 (both (leb l.0 l.1) (every (λ 
 ordered_in (l ∷ row) h (suc i) = ordered_in row (both (leb l.0 l.1) (every (λ l. leb l.0 l.1) row) h).right i
 
 limits_ordered : (v : Version) (i : ℕ) → (limit_of (version_row v) i).0 ≤ (limit_of (version_row v) i).1
-limits_ordered version02 i = ordered_in (get_or limits 0 []) refl i
-limits_ordered version96 i = ordered_in (get_or limits 1 []) refl i
+limits_ordered Version02 i = ordered_in (get_or limits 0 []) refl i
+limits_ordered Version96 i = ordered_in (get_or limits 1 []) refl i
 
 module _ (v : Version) where
   abbrev least : ℕ → ℕ
@@ -205,8 +204,8 @@ module _ (v : Version) where
   right i f = get_or (field_bytes v) i (every plain) f
 
   -- a field as the tests of its fault have it
-  abbrev fault_by : Bool → Bool → Bool → Bool → PieceFault
-  fault_by out short long ok = cond out Faultless (cond short (Faulty FieldTooShort) (cond long (Faulty FieldTooLong) (cond ok Faultless (Faulty BadFieldBytes))))
+  abbrev fault_by : Bool → Bool → Bool → Bool → Option Reason
+  fault_by out short long ok = cond out None (cond short (Some FieldTooShort) (cond long (Some FieldTooLong) (cond ok None (Some BadFieldBytes))))
 
   field_agrees : (i : ℕ) (f : Bytes) → is_faultless (field_fault v i f) ≡ field v i f
   unfolding field_fault field long_as
@@ -233,13 +232,13 @@ module _ (v : Version) where
     stands : left_out i f ≡ false
     lacks : FieldLacks v i f r
 
-  field_fault_so : (i : ℕ) (f : Bytes) (r : Reason) → field_fault v i f ≡ Faulty r → FieldSo i f r
+  field_fault_so : (i : ℕ) (f : Bytes) (r : Reason) → field_fault v i f ≡ Some r → FieldSo i f r
   unfolding field_fault long_as
   field_fault_so i f r is =
       by (left_out i f) (ltb (length f) (least i)) (ltb (greatest i) (length f)) (right i f) refl refl refl refl is
     where
       by : (out short long ok : Bool) → left_out i f ≡ out → ltb (length f) (least i) ≡ short → ltb (greatest i) (length f) ≡ long
-          → right i f ≡ ok → fault_by out short long ok ≡ Faulty r → FieldSo i f r
+          → right i f ≡ ok → fault_by out short long ok ≡ Some r → FieldSo i f r
       by true short long ok o s l b is = let z : ◌≡◌ {A = ℕ} 0 1 = cc in absurd (omega arith)
       by false true long ok o s l b is = record { stands = o; lacks = too_short (cc) (ltb-true (length f) (least i) s) }
       by false false true ok o s l b is = record { stands = o; lacks = too_long (cc) (ltb-true (greatest i) (length f) l) }
@@ -247,23 +246,23 @@ module _ (v : Version) where
       by false false false false o s l b is =
           record { stands = o; lacks = bad_bytes (cc) (and_both (le-leb (least i) (length f) (ltb-false (length f) (least i) s)) (le-leb (length f) (greatest i) (ltb-false (greatest i) (length f) l))) b }
 
-  field_fault_pass : (i : ℕ) (f : Bytes) (r : Reason) → left_out i f ≡ false → FieldLacks v i f r → field_fault v i f ≡ Faulty r
+  field_fault_pass : (i : ℕ) (f : Bytes) (r : Reason) → left_out i f ≡ false → FieldLacks v i f r → field_fault v i f ≡ Some r
   unfolding field_fault long_as
   field_fault_pass i f r stands (too_short why short) =
-      cond_no (left_out i f) _ _ stands ∙ cond_yes (ltb (length f) (least i)) _ _ (lt-ltb (length f) (least i) short) ∙ ap Faulty (sym why)
+      cond_no (left_out i f) _ _ stands ∙ cond_yes (ltb (length f) (least i)) _ _ (lt-ltb (length f) (least i) short) ∙ ap Some (sym why)
   field_fault_pass i f r stands (too_long why long) =
       let order = limits_ordered v i in
       cond_no (left_out i f) _ _ stands
       ∙ cond_no (ltb (length f) (least i)) _ _ (le-ltb (length f) (least i) (omega arith))
       ∙ cond_yes (ltb (greatest i) (length f)) _ _ (lt-ltb (greatest i) (length f) long)
-      ∙ ap Faulty (sym why)
+      ∙ ap Some (sym why)
   field_fault_pass i f r stands (bad_bytes why fits wrong) =
       let k = both (leb (least i) (length f)) (leb (length f) (greatest i)) fits in
       cond_no (left_out i f) _ _ stands
       ∙ cond_no (ltb (length f) (least i)) _ _ (le-ltb (length f) (least i) (leb-true (least i) (length f) k.left))
       ∙ cond_no (ltb (greatest i) (length f)) _ _ (le-ltb (greatest i) (length f) (leb-true (length f) (greatest i) k.right))
       ∙ cond_no (right i f) _ _ wrong
-      ∙ ap Faulty (sym why)
+      ∙ ap Some (sym why)
 
 -- an empty last one past some: the others stand in front of it
 record LastEmpty (n : ℕ) (ps : List Bytes) : Type 0 where
@@ -300,7 +299,7 @@ module _ (v : Version) where
   fields_fault_so fs broken = by (count_fits v fs) (last_is_empty (drop least_fields fs)) (fields_from v 0 fs) refl refl refl broken
     where
       by : (fits empty all : Bool) → count_fits v fs ≡ fits → last_is_empty (drop least_fields fs) ≡ empty → fields_from v 0 fs ≡ all → kept_by fits all empty ≡ false
-          → FoundIn (FieldsLack v fs) (cond fits (cond empty (InPiece BadFieldCount (length (joined GS fs))) (first_fault (field_fault v) 0 0 fs)) (InPiece BadFieldCount 0))
+          → FoundIn (FieldsLack v fs) (cond fits (cond empty (in_piece BadFieldCount (length (joined GS fs))) (first_fault (field_fault v) 0 0 fs)) (in_piece BadFieldCount 0))
       by false empty all f e a broken = record { front = []; reason = BadFieldCount; fault = bad_count refl f refl; is = refl }
       by true true all f e a broken =
           let last = last_empty_so least_fields fs e in
@@ -308,35 +307,35 @@ module _ (v : Version) where
             front = without_last fs;
             reason = BadFieldCount;
             fault = empty_last refl f last.list last.past;
-            is = ap (λ x. InPiece BadFieldCount (length x)) (sym (terminated_without_last GS fs last.whole));
+            is = ap (λ x. in_piece BadFieldCount (length x)) (sym (terminated_without_last GS fs last.whole));
           }
       by true false true f e a broken = absurd (true≢false broken)
       by true false false f e a broken =
           let first = first_so (field_fault v) fs 0 0 (fields_agree v fs 0 ∙ a) in
-          let faulty : field_fault v (length first.front) first.piece ≡ Faulty first.reason = ap (λ n. field_fault v n first.piece) (omega arith) ∙ first.faulty in
+          let faulty : field_fault v (length first.front) first.piece ≡ Some first.reason = ap (λ n. field_fault v n first.piece) (omega arith) ∙ first.faulty in
           let this = field_fault_so v (length first.front) first.piece first.reason faulty in
           record {
             front = first.front;
             reason = first.reason;
             fault = at_field f e (sym (fields_agree v first.front 0) ∙ first.faultless) first.piece first.more first.list this.stands this.lacks;
-            is = first.found ∙ ap (InPiece first.reason) (omega arith);
+            is = first.found ∙ ap (in_piece first.reason) (omega arith);
           }
 
   pub fields_fault_pass : (fs front : List Bytes) (r : Reason) → FieldsLack v fs front r → Told (transport v fs) (fields_fault_by v (length (joined GS fs)) fs) front r
   unfolding transport
   fields_fault_pass fs front r (bad_count why fits none) = record {
     broken = ap (λ t. kept_by t (fields_from v 0 fs) (last_is_empty (drop least_fields fs))) fits;
-    is = cond_no (count_fits v fs) _ _ fits ∙ (λ i. InPiece (sym why i) (length (terminated GS (sym none i))));
+    is = cond_no (count_fits v fs) _ _ fits ∙ (λ i. in_piece (sym why i) (length (terminated GS (sym none i))));
   }
   fields_fault_pass fs front r (empty_last why fits list past) =
       let empty : last_is_empty (drop least_fields fs) ≡ true = ap (λ x. last_is_empty (drop least_fields x)) list ∙ last_empty_pass least_fields front past in
       let end : joined GS fs ≡ terminated GS front = ap (joined GS) list ∙ joined_at GS front [] [] ∙ append-nil (terminated GS front) in
       record {
         broken = right_fails (count_fits v fs && fields_from v 0 fs) (ap not empty);
-        is = cond_yes (count_fits v fs) _ _ fits ∙ cond_yes (last_is_empty (drop least_fields fs)) _ _ empty ∙ (λ i. InPiece (sym why i) (length (end i)));
+        is = cond_yes (count_fits v fs) _ _ fits ∙ cond_yes (last_is_empty (drop least_fields fs)) _ _ empty ∙ (λ i. in_piece (sym why i) (length (end i)));
       }
   fields_fault_pass fs front r (at_field fits full faultless f more list stands lacks) =
-      let this : field_fault v (0 + length front) f ≡ Faulty r = ap (λ n. field_fault v n f) (omega arith) ∙ field_fault_pass v (length front) f r stands lacks in
+      let this : field_fault v (0 + length front) f ≡ Some r = ap (λ n. field_fault v n f) (omega arith) ∙ field_fault_pass v (length front) f r stands lacks in
       let not_all : fields_from v 0 fs ≡ false = sym (fields_agree v fs 0) ∙ ap (faultless_from (field_fault v) 0) list ∙ not_all_with (field_fault v) front 0 f more r this in
       record {
         broken = (λ i. kept_by (fits i) (not_all i) (full i));
@@ -344,7 +343,7 @@ module _ (v : Version) where
             ∙ cond_no (last_is_empty (drop least_fields fs)) _ _ full
             ∙ ap (first_fault (field_fault v) 0 0) list
             ∙ first_pass (field_fault v) front 0 0 f more r (fields_agree v front 0 ∙ faultless) this
-            ∙ ap (InPiece r) (omega arith);
+            ∙ ap (in_piece r) (omega arith);
       }
 
   pub fields_ahead : (fs front : List Bytes) (r : Reason) → FieldsLack v fs front r → Ahead (joined GS fs) front

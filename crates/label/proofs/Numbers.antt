@@ -1,5 +1,6 @@
 -- The paper's numbers and values tell all of an answer: two readings, or two answers of the writer, with the same numbers and values are equal. From the
 -- numbers the answer is got back.
+use Rattle.std.specs.Prelude.{Err, Ok}
 use Prim.Native.Nat.{ℕ, ◌-◌}
 use mathlib.Core.Path.{◌≡◌, refl, sym, ap, ◌∙◌}
 use mathlib.Core.Bool.{cond}
@@ -8,14 +9,10 @@ use lib.ListN.{get_or}
 use lib.Dec.{eqb}
 use Rattle.label.specs.declared.Reason.{Reason}
 use Rattle.label.specs.declared.Reason.TheVariants.{TooLong, NoMessageHeader, NoIndicator, NoTrailer, BytesAfterTrailer, UnknownFormat, NotFirst, BadFormatHeader, PayloadDoesNotFit, ByteNotPermitted, BodyBreaksRules, NoRecordSeparator, TooManyRows, NoRoom, BadFieldCount, FieldTooShort, FieldTooLong, BadFieldBytes}
-use Rattle.label.specs.declared.Reading.{Reading}
-use Rattle.label.specs.declared.Reading.TheVariants.{Accepted, Refused}
 use Rattle.label.specs.declared.WriteReason.{WriteReason}
 use Rattle.label.specs.declared.WriteReason.TheVariants.{BadRows, NoSuchMessage, NoOutputRoom}
-use Rattle.label.specs.declared.Writing.{Writing}
-use Rattle.label.specs.declared.Writing.TheVariants.{Written, Declined}
-use Rattle.label.specs.Answer.{number, answer_of}
-use Rattle.label.specs.Writing.{write_number, write_answer_of}
+use Rattle.label.specs.Answer.{number, answer_of, Reading}
+use Rattle.label.specs.Writing.{write_number, write_answer_of, Writing}
 
 abbrev reasons : List Reason
 reasons =
@@ -56,14 +53,14 @@ reasons_by_number r r' same = sym (numbered_back r) ∙ ap numbered same ∙ num
 
 -- two numbers are a refusal, three an acceptance
 abbrev answered_back : List ℕ → Reading
-answered_back [] = Refused (record { reason = NoRoom; place = 0 })
-answered_back (n ∷ []) = Refused (record { reason = numbered n; place = 0 })
-answered_back (n ∷ (p ∷ [])) = Refused (record { reason = numbered n; place = p })
-answered_back (n ∷ (e ∷ (r ∷ more))) = Accepted (record { envelopes = e; rows = r })
+answered_back [] = Err (record { reason = NoRoom; place = 0 })
+answered_back (n ∷ []) = Err (record { reason = numbered n; place = 0 })
+answered_back (n ∷ (p ∷ [])) = Err (record { reason = numbered n; place = p })
+answered_back (n ∷ (e ∷ (r ∷ more))) = Ok (record { envelopes = e; rows = r })
 
 read_back_from : (a : Reading) → answered_back (answer_of a) ≡ a
-read_back_from (Accepted counts) = refl
-read_back_from (Refused r) = ap (λ reason. Refused (record { reason = reason; place = r.place })) (numbered_back r.reason)
+read_back_from (Ok counts) = refl
+read_back_from (Err r) = ap (λ reason. Err (record { reason = reason; place = r.place })) (numbered_back r.reason)
 
 pub readings_by_answer : (a b : Reading) → answer_of a ≡ answer_of b → a ≡ b
 readings_by_answer a b same = sym (read_back_from a) ∙ ap answered_back same ∙ read_back_from b
@@ -73,18 +70,18 @@ write_reasons = BadRows ∷ NoSuchMessage ∷ NoOutputRoom ∷ []
 
 -- one number is a refusal, two a count
 abbrev written_back : List ℕ → Writing
-written_back [] = Declined NoOutputRoom
-written_back (n ∷ []) = Declined (get_or write_reasons (n - 20) NoOutputRoom)
-written_back (n ∷ (count ∷ more)) = Written count
+written_back [] = Err NoOutputRoom
+written_back (n ∷ []) = Err (get_or write_reasons (n - 20) NoOutputRoom)
+written_back (n ∷ (count ∷ more)) = Ok count
 
 wrote_back_from : (a : Writing) → written_back (write_answer_of a) ≡ a
-wrote_back_from (Written count) = refl
-wrote_back_from (Declined BadRows) = refl
-wrote_back_from (Declined NoSuchMessage) = refl
-wrote_back_from (Declined NoOutputRoom) = refl
+wrote_back_from (Ok count) = refl
+wrote_back_from (Err BadRows) = refl
+wrote_back_from (Err NoSuchMessage) = refl
+wrote_back_from (Err NoOutputRoom) = refl
 
 pub writings_by_answer : (a b : Writing) → write_answer_of a ≡ write_answer_of b → a ≡ b
 writings_by_answer a b same = sym (wrote_back_from a) ∙ ap written_back same ∙ wrote_back_from b
 
 pub write_reasons_by_number : (r r' : WriteReason) → write_number r ≡ write_number r' → r ≡ r'
-write_reasons_by_number r r' same = let one = writings_by_answer (Declined r) (Declined r') (ap (λ n. n ∷ []) same) in cc
+write_reasons_by_number r r' same = let one = writings_by_answer (Err r) (Err r') (ap (λ n. n ∷ []) same) in cc

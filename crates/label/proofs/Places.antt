@@ -11,7 +11,7 @@ use Rattle.label.specs.declared.Reason.{Reason}
 use Rattle.label.specs.declared.Reason.TheVariants.{TooLong, NoMessageHeader, NoIndicator, NoTrailer, BytesAfterTrailer, UnknownFormat, NotFirst, BadFormatHeader, PayloadDoesNotFit, ByteNotPermitted, BodyBreaksRules, NoRecordSeparator, TooManyRows, NoRoom, BadFieldCount, FieldTooShort, FieldTooLong, BadFieldBytes}
 use Rattle.label.specs.Bytes.{Bytes, EOT, is_empty}
 use Rattle.label.specs.Limits.{longest}
-use Rattle.label.specs.Values.{Version}
+use Rattle.label.specs.declared.Version.{Version}
 use Rattle.label.specs.declared.Edition.{Edition}
 use Rattle.label.specs.Envelope.{Envelope, fields, whole_rest, segments, elements, text, counted}
 use Rattle.label.specs.Message.{header}

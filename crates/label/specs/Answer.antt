@@ -1,9 +1,9 @@
 -- What is answered, in the paper's numbers, and what lent memory holds afterwards (01, Numbers for the receiving desk).
-use Rattle.std.specs.Prelude.{ℕ, ◌/◌, cond, List, [], ◌∷◌, ◌++◌, length, drop, ltb}
+use Rattle.std.specs.Prelude.{Result, ℕ, ◌/◌, cond, List, [], ◌∷◌, ◌++◌, length, drop, ltb, Err, Ok}
 use Rattle.label.specs.declared.Reason.{Reason}
+use Rattle.label.specs.declared.Counts.{Counts}
+use Rattle.label.specs.declared.Refusal.{Refusal}
 use Rattle.label.specs.declared.Reason.TheVariants.{TooLong, NoMessageHeader, NoIndicator, NoTrailer, BytesAfterTrailer, UnknownFormat, NotFirst, BadFormatHeader, PayloadDoesNotFit, ByteNotPermitted, BodyBreaksRules, NoRecordSeparator, TooManyRows, NoRoom, BadFieldCount, FieldTooShort, FieldTooLong, BadFieldBytes}
-use Rattle.label.specs.declared.Reading.{Reading}
-use Rattle.label.specs.declared.Reading.TheVariants.{Accepted, Refused}
 use Rattle.label.specs.Bytes.{Bytes}
 use Rattle.label.specs.Limits.{most_rows, row_width}
 use Rattle.label.specs.declared.Edition.{Edition}
@@ -39,9 +39,13 @@ accepted envelopes rows = 0 ∷ envelopes ∷ rows ∷ []
 abbrev pub refusal : Reason → ℕ → List ℕ
 refusal reason place = number reason ∷ place ∷ []
 
+-- a reading, as the code has it: the counts, or a refusal
+abbrev pub Reading : Type 0
+Reading = Result Counts Refusal
+
 abbrev pub answer_of : Reading → List ℕ
-answer_of (Accepted counts) = accepted counts.envelopes counts.rows
-answer_of (Refused r) = refusal r.reason r.place
+answer_of (Ok counts) = accepted counts.envelopes counts.rows
+answer_of (Err r) = refusal r.reason r.place
 
 -- how many rows a table has room for
 abbrev pub room_of : List ℕ → ℕ

@@ -3,7 +3,8 @@
 use Rattle.std.specs.Prelude.{ℕ, ◌≡◌, Bool, true, false, not, ◌&&◌, List, length}
 use Rattle.label.specs.declared.Limit.{Limit}
 use Rattle.label.specs.Bytes.{Bytes, plain, every, is_empty}
-use Rattle.label.specs.Values.{Version, release, header_values, count, value}
+use Rattle.label.specs.Values.{release, header_values, count, value}
+use Rattle.label.specs.declared.Version.{Version}
 use Rattle.label.specs.Segments.{Segment, tagged}
 use Rattle.label.specs.Fields.{transport}
 use Rattle.label.specs.declared.Edition.{Edition}

@@ -3,7 +3,8 @@ use Rattle.std.specs.Prelude.{ℕ, ◌+◌, ◌-◌, Bool, true, false, not, ◌
 use Rattle.label.specs.Bytes.{Bytes, ascii, plain, digit, every, is_empty, same_bytes}
 use Rattle.label.specs.Pieces.{Cut, found, absent, cut, last_is_empty}
 use Rattle.label.specs.Limits.{limit_of, long_as, ◌to◌}
-use Rattle.label.specs.Values.{Version, version02, version96}
+use Rattle.label.specs.declared.Version.{Version}
+use Rattle.label.specs.declared.Version.TheVariants.{Version02, Version96}
 
 -- `/`
 abbrev pub slash : ℕ
@@ -42,8 +43,8 @@ unit_length = 2
 
 -- No. 10 (document 02, No. 2): in version 02 a number and behind it a unit, in version 96 the number alone
 unfoldable pub weight : Version → Bytes → Bool
-weight version02 bs = amount (take (length bs - unit_length) bs) && unit (drop (length bs - unit_length) bs)
-weight version96 bs = amount bs
+weight Version02 bs = amount (take (length bs - unit_length) bs) && unit (drop (length bs - unit_length) bs)
+weight Version96 bs = amount bs
 
 -- No. 11: `Y` or `N`
 unfoldable pub yes_or_no : Bytes → Bool
@@ -58,13 +59,13 @@ field_bytes v =
 
 -- the version's row in the table of limits
 abbrev pub version_row : Version → ℕ
-version_row version02 = 0
-version_row version96 = 1
+version_row Version02 = 0
+version_row Version96 = 1
 
 -- No. 15 is version 02's only
 abbrev pub most_fields : Version → ℕ
-most_fields version02 = 15
-most_fields version96 = 14
+most_fields Version02 = 15
+most_fields Version96 = 14
 
 -- fields No. 1 to 5 must be there
 abbrev pub least_fields : ℕ

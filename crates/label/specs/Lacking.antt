@@ -5,7 +5,8 @@ use Rattle.label.specs.declared.Reason.TheVariants.{BodyBreaksRules, BadFieldCou
 use Rattle.label.specs.Bytes.{Bytes, GS, plain, every, is_empty}
 use Rattle.label.specs.Pieces.{last_is_empty}
 use Rattle.label.specs.Limits.{long_as, limit_of}
-use Rattle.label.specs.Values.{Version, version_digits}
+use Rattle.label.specs.Values.{version_digits}
+use Rattle.label.specs.declared.Version.{Version}
 use Rattle.label.specs.Fields.{field_bytes, version_row, least_fields, fields_from}
 use Rattle.label.specs.Faults.{left_out, count_fits}
 use Rattle.label.specs.declared.Edition.{Edition}

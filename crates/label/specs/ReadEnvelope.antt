@@ -1,22 +1,22 @@
 -- How one envelope is read: what is answered where an indicator is due (01, Numbers for the receiving desk). A refusal has that offset as its place, or
 -- where a field or an element is at fault the offset at which that starts (02, No. 1). In a definition the refusals stand in the paper's order: 3, 6, 7,
 -- 8, then 9, or 12, 10 and 11 (for 01 30 to 33 in its stead), or for format 02 11 and 10.
-use Rattle.std.specs.Prelude.{ℕ, ◌+◌, Bool, true, false, not, ◌&&◌, ◌||◌, cond, List, [], ◌∷◌, map, length, get_or, take, drop, ltb, eqb}
-use Rattle.std.proofs.Math.Option.{Option, none, some}
+use Rattle.std.specs.Prelude.{ℕ, ◌+◌, Bool, true, false, not, ◌&&◌, ◌||◌, cond, List, [], ◌∷◌, map, length, get_or, take, drop, ltb, eqb, None, Option, Some}
 use Rattle.label.specs.declared.Reason.{Reason}
 use Rattle.label.specs.declared.Limit.{Limit}
-use Rattle.label.specs.declared.BodyFault.{BodyFault}
-use Rattle.label.specs.declared.BodyFault.TheVariants.{InPiece, OfWhole}
 use Rattle.label.specs.declared.Reason.TheVariants.{NoIndicator, UnknownFormat, NotFirst, BadFormatHeader, PayloadDoesNotFit, ByteNotPermitted, BodyBreaksRules, NoRecordSeparator}
 use Rattle.label.specs.Bytes.{Bytes, FS, GS, RS, US, plain, digit, every, is_empty, same_bytes}
 use Rattle.label.specs.Pieces.{pieces, last_is_empty, without_last, Cut, found, absent, cut}
-use Rattle.label.specs.Values.{Version, version02, version96, version_digits, release_length, release, header_value, count, value}
+use Rattle.label.specs.Values.{version_digits, release_length, release, header_value, count, value}
+use Rattle.label.specs.declared.Version.{Version}
+use Rattle.label.specs.declared.Version.TheVariants.{Version02, Version96}
 use Rattle.label.specs.Segments.{Segment, tagged}
 use Rattle.label.specs.Fields.{transport}
 use Rattle.label.specs.Faults.{fields_fault, elements_fault, whole_fault}
 use Rattle.label.specs.declared.Edition.{Edition}
 use Rattle.label.specs.Formats.{Rule, rule_of, as_fields, as_rest, as_segments, as_elements, as_text, as_counted, unknown}
 use Rattle.label.specs.Envelope.{Envelope, fields, whole_rest, segments, elements, text, counted}
+use Rattle.label.specs.declared.Refusal.{Refusal}
 
 -- an envelope and what follows its RS; an envelope that takes all the rest; a refusal at the indicator; or one where the last bytes begin
 pub data Step : Type 0 where
@@ -49,9 +49,9 @@ valued test bs next = valued_at test next (cut GS bs)
 -- Bodies that run to the first RS: 12, 10, and then what their rules say
 
 -- a body that breaks its rules, by its fault: bs begin where it begins
-abbrev pub broken : Bytes → BodyFault → Step
-broken bs OfWhole = refuse BodyBreaksRules
-broken bs (InPiece reason at) = refuse_at reason (drop at bs)
+abbrev pub broken : Bytes → Option Refusal → Step
+broken bs None = refuse BodyBreaksRules
+broken bs (Some fault) = refuse_at fault.reason (drop fault.place bs)
 
 abbrev pub body_at : (ℕ → Bool) → (Bytes → Bool) → (Bytes → Step) → (Bytes → Envelope) → Cut → Step
 body_at permitted rules otherwise made absent = refuse NoRecordSeparator
@@ -61,7 +61,7 @@ body_at permitted rules otherwise made (found body left) =
     (otherwise body))
 
 -- the body's permitted bytes, its rules, which fault it has if it breaks them, and the envelope that it makes
-unfoldable pub bodied : (ℕ → Bool) → (Bytes → Bool) → (Bytes → BodyFault) → (Bytes → Envelope) → Bytes → Step
+unfoldable pub bodied : (ℕ → Bool) → (Bytes → Bool) → (Bytes → Option Refusal) → (Bytes → Envelope) → Bytes → Step
 bodied permitted rules fault made bs = body_at permitted rules (λ body. broken bs (fault body)) made (cut RS bs)
 
 -- Formats
@@ -72,13 +72,13 @@ plain_or_gs b = plain b || eqb b GS
 -- 01: GS, then `02` or `96`, then fields split by GS
 unfoldable pub version_of : Bytes → Option Version
 version_of bs =
-    cond (same_bytes bs (version_digits version02)) (some version02)
-    (cond (same_bytes bs (version_digits version96)) (some version96)
-    none)
+    cond (same_bytes bs (version_digits Version02)) (Some Version02)
+    (cond (same_bytes bs (version_digits Version96)) (Some Version96)
+    None)
 
 unfoldable pub read_fields : ℕ → Option Version → Bytes → Step
-read_fields f none bs = refuse BadFormatHeader
-read_fields f (some v) bs = bodied plain_or_gs (λ body. transport v (pieces GS body)) (fields_fault v) (λ body. fields f v (pieces GS body)) bs
+read_fields f None bs = refuse BadFormatHeader
+read_fields f (Some v) bs = bodied plain_or_gs (λ body. transport v (pieces GS body)) (fields_fault v) (λ body. fields f v (pieces GS body)) bs
 
 unfoldable pub read_transport : ℕ → Bytes → Step
 read_transport f bs = opened (GS ∷ []) bs λ after. read_fields f (version_of (take 2 after)) (drop 2 after)

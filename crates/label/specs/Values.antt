@@ -1,16 +1,15 @@
 -- What stands in a format's header (01, Envelope rules, column Header).
 use Rattle.std.specs.Prelude.{ℕ, ◌+◌, ◌-◌, ◌*◌, Bool, true, false, ◌&&◌, List, [], ◌∷◌}
 use Rattle.label.specs.declared.Limit.{Limit}
+use Rattle.label.specs.declared.Version.{Version}
+use Rattle.label.specs.declared.Version.TheVariants.{Version02, Version96}
 use Rattle.label.specs.Bytes.{Bytes, ascii, plain, digit, capital_or_digit, every}
 use Rattle.label.specs.Limits.{long_as, ◌to◌}
 
 -- 01: the version, `02` or `96`
-pub data Version : Type 0 where
-  version02 version96 : Version
-
 abbrev pub version_digits : Version → Bytes
-version_digits version02 = ascii "02"
-version_digits version96 = ascii "96"
+version_digits Version02 = ascii "02"
+version_digits Version96 = ascii "96"
 
 -- 03, 04: six bytes, digits or capitals (house)
 abbrev pub release_length : ℕ

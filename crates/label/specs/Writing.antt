@@ -1,10 +1,7 @@
 -- What the writer answers, and what the output holds afterwards (01, Numbers for the receiving desk, paragraph Writer; 02, No. 9).
-use Rattle.std.specs.Prelude.{ℕ, ◌+◌, ◌/◌, ◌%◌, Bool, true, false, ◌&&◌, cond, List, [], ◌∷◌, map, length, take, drop, leb, ltb, eqb}
-use Rattle.std.proofs.Math.Option.{Option, none, some}
+use Rattle.std.specs.Prelude.{Result, ℕ, ◌+◌, ◌/◌, ◌%◌, Bool, true, false, ◌&&◌, cond, List, [], ◌∷◌, map, length, take, drop, leb, ltb, eqb, Err, Ok, None, Option, Some}
 use Rattle.label.specs.declared.WriteReason.{WriteReason}
 use Rattle.label.specs.declared.WriteReason.TheVariants.{BadRows, NoSuchMessage, NoOutputRoom}
-use Rattle.label.specs.declared.Writing.{Writing}
-use Rattle.label.specs.declared.Writing.TheVariants.{Written, Declined}
 use Rattle.label.specs.Bytes.{Bytes, every, same_bytes}
 use Rattle.label.specs.Limits.{most_rows, row_width}
 use Rattle.label.specs.declared.Edition.{Edition}
@@ -63,8 +60,8 @@ same_ordinals os os' = same_bytes os os'
 
 -- the good message with these items and these ordinals, or that there is none: what the items render to, if that is read and has just these
 abbrev pub if_same : List Item → List ℕ → Bytes → Outcome → Option Bytes
-if_same is os m (read es) = cond (same_items (items_of (message_parts es)) is && same_ordinals (ordinals_of es) os) (some m) none
-if_same is os m (refused reason place) = none
+if_same is os m (read es) = cond (same_items (items_of (message_parts es)) is && same_ordinals (ordinals_of es) os) (Some m) None
+if_same is os m (refused reason place) = None
 
 unfoldable pub composed : Edition → List Item → List ℕ → Option Bytes
 composed edition is os = if_same is os (rendered is) (reading edition (rendered is))
@@ -75,8 +72,8 @@ pub data Composition : Type 0 where
   declined : WriteReason → Composition
 
 abbrev pub fitting : ℕ → Option Bytes → Composition
-fitting room none = declined NoSuchMessage
-fitting room (some m) = cond (ltb room (length m)) (declined NoOutputRoom) (written m)
+fitting room None = declined NoSuchMessage
+fitting room (Some m) = cond (ltb room (length m)) (declined NoOutputRoom) (written m)
 
 -- 20, then 21, then 22
 unfoldable pub writing : Edition → Bytes → List ℕ → ℕ → Composition
@@ -88,9 +85,13 @@ write_number BadRows = 20
 write_number NoSuchMessage = 21
 write_number NoOutputRoom = 22
 
+-- what the writer answers, as the code has it: the byte count, or why not
+abbrev pub Writing : Type 0
+Writing = Result ℕ WriteReason
+
 abbrev pub write_answer_of : Writing → List ℕ
-write_answer_of (Written count) = 0 ∷ count ∷ []
-write_answer_of (Declined reason) = write_number reason ∷ []
+write_answer_of (Ok count) = 0 ∷ count ∷ []
+write_answer_of (Err reason) = write_number reason ∷ []
 
 -- what writing answers
 abbrev pub composed_answer : Composition → List ℕ

@@ -19,6 +19,13 @@ pub enum Edition {
     Edition2025,
 }
 
+// The version of format 01's fields; its number is its row in the list of their limits (01, Transport fields).
+#[derive(Clone, Copy)]
+pub enum Version {
+    Version02 = 0,
+    Version96 = 1,
+}
+
 // `[)>` RS, in front of every message, and its length.
 pub const HEADER_LENGTH: usize = 4;
 
@@ -50,42 +57,27 @@ pub const MOST_FIELDS_96: usize = 14;
 // of specs/Answer has each one's number.
 #[derive(Clone, Copy)]
 pub enum Reason {
-    TooLong,
-    NoMessageHeader,
-    NoIndicator,
-    NoTrailer,
-    BytesAfterTrailer,
-    UnknownFormat,
-    NotFirst,
-    BadFormatHeader,
-    PayloadDoesNotFit,
-    ByteNotPermitted,
-    BodyBreaksRules,
-    NoRecordSeparator,
-    TooManyRows,
-    NoRoom,
-    BadFieldCount,
-    FieldTooShort,
-    FieldTooLong,
-    BadFieldBytes,
+    TooLong = 1,
+    NoMessageHeader = 2,
+    NoIndicator = 3,
+    NoTrailer = 4,
+    BytesAfterTrailer = 5,
+    UnknownFormat = 6,
+    NotFirst = 7,
+    BadFormatHeader = 8,
+    PayloadDoesNotFit = 9,
+    ByteNotPermitted = 10,
+    BodyBreaksRules = 11,
+    NoRecordSeparator = 12,
+    TooManyRows = 13,
+    NoRoom = 14,
+    BadFieldCount = 30,
+    FieldTooShort = 31,
+    FieldTooLong = 32,
+    BadFieldBytes = 33,
 }
 
-// What is wrong with one piece of a body, a field or an element: why it is refused, or nothing (02, No. 1).
-#[derive(Clone, Copy)]
-pub enum PieceFault {
-    Faulty(Reason),
-    Faultless,
-}
-
-// What is wrong with a body that breaks its format's rules: why one of its pieces is refused and where in the body that starts; or no piece
-// by itself, so that the body is refused as a whole (02, No. 1).
-#[derive(Clone, Copy)]
-pub enum BodyFault {
-    InPiece(Reason, usize),
-    OfWhole,
-}
-
-// A refusal holds its reason and its place, an offset in the message.
+// A refusal holds its reason and its place, an offset in the message, or in the body that it was looked for in (`faults`).
 #[derive(Clone, Copy)]
 pub struct Refusal {
     pub reason: Reason,
@@ -107,26 +99,18 @@ pub struct Counts {
 }
 
 // What a reading answers. `answer_of` of specs/Answer has the paper's number and values for each case.
-#[derive(Clone, Copy)]
-pub enum Reading {
-    Accepted(Counts),
-    Refused(Refusal),
-}
+pub type Reading = Result<Counts, Refusal>;
 
 // Why rows are not written (paragraph Writer). `write_number` of specs/Writing has each one's number.
 #[derive(Clone, Copy)]
 pub enum WriteReason {
-    BadRows,
-    NoSuchMessage,
-    NoOutputRoom,
+    BadRows = 20,
+    NoSuchMessage = 21,
+    NoOutputRoom = 22,
 }
 
 // What the writer answers: the byte count, or why not. `write_answer_of` of specs/Writing has the paper's number and values.
-#[derive(Clone, Copy)]
-pub enum Writing {
-    Written(usize),
-    Declined(WriteReason),
-}
+pub type Writing = Result<usize, WriteReason>;
 
 // The least and the greatest length of a transport field. In a byte each, since `limits` lays its table out anew at each call.
 #[derive(Clone, Copy)]

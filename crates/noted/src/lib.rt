@@ -79,7 +79,7 @@ fn copy_several(notes: &[u16], rows: usize, table: &mut [u32])
 fn refused_for(reason: Reason) -> Reading
     ensures { answer_of result ≡ refusal reason 0 }
 {
-    Reading::Refused(Refusal { reason, place: 0 })
+    Err(Refusal { reason, place: 0 })
 }
 
 // Hands the rows noted, of a message with so many envelopes, over to a table of any length, whose room is its length divided by the numbers of
@@ -95,13 +95,13 @@ pub fn hand_over(envelopes: usize, notes: &[u16], table: &mut [u32]) -> Reading
     }
     if envelopes < 2 {
         copy_alone(notes, rows, table);
-        return Reading::Accepted(Counts { envelopes, rows });
+        return Ok(Counts { envelopes, rows });
     }
     if MOST_ROWS < rows {
         return refused_for(Reason::TooManyRows);
     }
     copy_several(notes, rows, table);
-    Reading::Accepted(Counts { envelopes, rows })
+    Ok(Counts { envelopes, rows })
 }
 
 // A noted number as an offset or a length.

@@ -12,35 +12,12 @@ use label::{Reason, WriteReason};
 pub fn number_of(reason: Reason) -> u32
     ensures { result ≡ number reason }
 {
-    match reason {
-        Reason::TooLong => 1,
-        Reason::NoMessageHeader => 2,
-        Reason::NoIndicator => 3,
-        Reason::NoTrailer => 4,
-        Reason::BytesAfterTrailer => 5,
-        Reason::UnknownFormat => 6,
-        Reason::NotFirst => 7,
-        Reason::BadFormatHeader => 8,
-        Reason::PayloadDoesNotFit => 9,
-        Reason::ByteNotPermitted => 10,
-        Reason::BodyBreaksRules => 11,
-        Reason::NoRecordSeparator => 12,
-        Reason::TooManyRows => 13,
-        Reason::NoRoom => 14,
-        Reason::BadFieldCount => 30,
-        Reason::FieldTooShort => 31,
-        Reason::FieldTooLong => 32,
-        Reason::BadFieldBytes => 33,
-    }
+    reason as u32
 }
 
 // The paper's number of a reason not to write.
-pub fn write_number_of(reason: WriteReason) -> u32
-    ensures { result ≡ write_number reason }
+pub fn write_number_of(why: WriteReason) -> u32
+    ensures { result ≡ write_number why }
 {
-    match reason {
-        WriteReason::BadRows => 20,
-        WriteReason::NoSuchMessage => 21,
-        WriteReason::NoOutputRoom => 22,
-    }
+    why as u32
 }

@@ -9,7 +9,8 @@ use borrow.Author.Tests.{eqb-true, ne_eqb}
 use lib.ListN.{length, get_or, take, drop, length-drop}
 use lib.Dec.{eqb}
 use Rattle.label.specs.Bytes.{Bytes, ascii, plain, digit, every, is_empty, same_bytes}
-use Rattle.label.specs.Values.{Version, version02, version96}
+use Rattle.label.specs.declared.Version.{Version}
+use Rattle.label.specs.declared.Version.TheVariants.{Version02, Version96}
 use Rattle.label.specs.Fields.{slash, few_digits, both_sides, n_of_x, point, amount_by, amount, unit, unit_length, weight, yes_or_no, field_bytes}
 use Rattle.leaves.specs.Seek.{seek}
 use Rattle.leaves.proofs.Turns.{and_true}
@@ -62,12 +63,12 @@ pub no_unit : (s : Bytes) → (length s ≡ 2 → ⊥) → false ≡ unit s
 unfolding unit
 no_unit s other = λ i. other_length s (ascii "LB") other i || other_length s (ascii "KG") other i
 
-pub no_room_for_unit : (s : Bytes) → length s < unit_length → false ≡ weight version02 s
+pub no_room_for_unit : (s : Bytes) → length s < unit_length → false ≡ weight Version02 s
 unfolding weight
 no_room_for_unit s short = sym (right_fails (amount (take (length s - unit_length) s)) (sym (no_unit (drop (length s - unit_length) s) (λ is. omega (arith, length-drop (length s - unit_length) s)))))
 
 -- a row behind that of version 02 is version 96's
-pub other_row : (row : ℕ) → (row ≡ 0 → ⊥) → version96 ≡ version_in row
+pub other_row : (row : ℕ) → (row ≡ 0 → ⊥) → Version96 ≡ version_in row
 other_row zero other = absurd (other refl)
 other_row (suc row) other = refl
 

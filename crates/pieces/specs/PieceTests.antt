@@ -2,7 +2,8 @@
 use Rattle.std.specs.Prelude.{ℕ, zero, suc, Bool, true, ◌&&◌, ◌||◌, take, get_or, leb}
 use Rattle.label.specs.Bytes.{Bytes, GS, plain, every, is_empty}
 use Rattle.label.specs.Limits.{limit_of, long_as}
-use Rattle.label.specs.Values.{Version, version02, version96}
+use Rattle.label.specs.declared.Version.{Version}
+use Rattle.label.specs.declared.Version.TheVariants.{Version02, Version96}
 use Rattle.label.specs.Elements.{element05, element06, element12}
 use Rattle.label.specs.Segments.{tag, tag03}
 use Rattle.label.specs.Fields.{field_bytes, least_fields, field}
@@ -12,8 +13,8 @@ use Rattle.pieces.specs.declared.Kind.TheVariants.{Fields02, Fields96, Segments0
 
 -- the version that a row of the limits is of
 abbrev pub version_in : ℕ → Version
-version_in zero = version02
-version_in (suc row) = version96
+version_in zero = Version02
+version_in (suc row) = Version96
 
 -- a field by the row of its version in the limits
 abbrev pub field_in : ℕ → ℕ → Bytes → Bool
@@ -21,8 +22,8 @@ field_in row i bs = long_as (limit_of row i) bs && get_or (field_bytes (version_
 
 -- what is asked of the piece with an index
 abbrev pub piece_test : Kind → ℕ → Bytes → Bool
-piece_test Fields02 i p = field version02 i p
-piece_test Fields96 i p = field version96 i p
+piece_test Fields02 i p = field Version02 i p
+piece_test Fields96 i p = field Version96 i p
 piece_test Segments03 i p = tag03 (take (seek GS p) p)
 piece_test Segments04 i p = tag (take (seek GS p) p)
 piece_test Elements05 i p = element05 p

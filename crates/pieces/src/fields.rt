@@ -1,7 +1,7 @@
 // Transport fields of 01. Field No. i + 1 is field i here; version 02 is row 0 of the limits, version 96 row 1.
 ghost use Rattle.std.specs.Prelude.{◌≡◌, get_or};
 ghost use Rattle.label.specs.Bytes.{plain, every};
-ghost use Rattle.label.specs.Values.{version02};
+ghost use Rattle.label.specs.declared.Version.TheVariants.{Version02};
 ghost use Rattle.label.specs.Fields.{few_digits, n_of_x, amount, unit, weight, yes_or_no, field_bytes};
 ghost use Rattle.pieces.specs.PieceTests.{version_in, field_in};
 
@@ -58,7 +58,7 @@ fn is_unit(s: &[u8]) -> bool
 
 // No. 10 in version 02: a number, and behind it a unit.
 fn amount_and_unit(s: &[u8]) -> bool
-    ensures { result ≡ weight version02 s.now }
+    ensures { result ≡ weight Version02 s.now }
 {
     if s.len() < UNIT_LENGTH {
         return false;

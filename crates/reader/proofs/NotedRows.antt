@@ -1,5 +1,6 @@
 -- Rows that stand in the notes: as the walk goes over the rows that are read, its cursor after so many steps yields those from that number on, and the notes have the
 -- numbers of the row that it stands at.
+use Rattle.std.specs.Prelude.{Ok}
 use Prim.Native.Nat.{ℕ, zero, suc, ◌+◌, ◌*◌, ◌≤◌, ◌<◌}
 use mathlib.Core.Path.{◌≡◌, refl, sym, ap, ◌∙◌, subst}
 use mathlib.Core.Bool.{Bool, true, false, cond}
@@ -11,7 +12,6 @@ use lib.ListN.{length, get_or, take, drop}
 use lib.Seq.{take-add, take_all}
 use lib.Dec.{ltb}
 use Rattle.label.specs.declared.Counts.{Counts}
-use Rattle.label.specs.declared.Reading.TheVariants.{Accepted}
 use Rattle.label.specs.declared.Reason.TheVariants.{TooManyRows, NoRoom}
 use Rattle.label.specs.declared.Stretch.{Stretch}
 use Rattle.label.specs.declared.Edition.{Edition}
@@ -99,7 +99,7 @@ module _ (edition : Edition) (m : Bytes) where
       subst (λ (s : ℕ). Lies edition m row s (get_or notes 3 0)) (sym holds.start) (subst (λ (l : ℕ). Lies edition m row (cursor_after m row).start l) (sym holds.length) lies)
 
 -- the ordinals of rows that are noted, by the envelopes that were counted, are those of the reading
-ordinals_noted_lem : (o : Outcome) (counts : Counts) → judged_as o ≡ Accepted counts → ordinals_noted counts.envelopes (rows_read o) ≡ ordinals_read o
+ordinals_noted_lem : (o : Outcome) (counts : Counts) → judged_as o ≡ Ok counts → ordinals_noted counts.envelopes (rows_read o) ≡ ordinals_read o
 ordinals_noted_lem (read es) counts says =
     let is : counts ≡ record { envelopes = length es; rows = length (rows_of es) } = cc in
     ap (λ (c : Counts). ordinals_noted c.envelopes (rows_of es)) is ∙ by (ltb 1 (length es)) refl

@@ -1,8 +1,6 @@
 -- What is printed: lines of numbers in decimal, a space between two numbers.
-use Rattle.std.specs.Prelude.{ℕ, zero, suc, ◌+◌, ◌*◌, cond, List, [], ◌∷◌, ◌++◌, get_or, ltb, decimal}
-use Rattle.label.specs.declared.Reading.{Reading}
-use Rattle.label.specs.declared.Reading.TheVariants.{Accepted, Refused}
-use Rattle.label.specs.Answer.{answer_of, room_of}
+use Rattle.std.specs.Prelude.{ℕ, zero, suc, ◌+◌, ◌*◌, cond, List, [], ◌∷◌, ◌++◌, get_or, ltb, decimal, Err, Ok}
+use Rattle.label.specs.Answer.{answer_of, room_of, Reading}
 use Rattle.label.specs.Bytes.{Bytes}
 use Rattle.label.specs.Counting.{row_from}
 use Rattle.label.specs.Layout.{numbers}
@@ -33,5 +31,5 @@ row_lines table (suc rows) = row_lines table rows ++ row_line table rows
 
 -- a reading whole: its answer, and of an accepted message every row
 abbrev pub reading_lines : Reading → List ℕ → Bytes
-reading_lines (Accepted counts) table = line_of (answer_of (Accepted counts)) ++ row_lines table counts.rows
-reading_lines (Refused r) table = line_of (answer_of (Refused r))
+reading_lines (Ok counts) table = line_of (answer_of (Ok counts)) ++ row_lines table counts.rows
+reading_lines (Err r) table = line_of (answer_of (Err r))

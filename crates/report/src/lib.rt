@@ -20,8 +20,8 @@ pub fn print_writing<W: Write>(out: &mut W, writing: Writing) -> io::Result<()>
     ensures { OnOk result (Appends (W.contents out.old) (W.contents out.new) (line_of (write_answer_of writing))) }
 {
     match writing {
-        Writing::Written(count) => print_two(out, 0, count as u64),
-        Writing::Declined(reason) => print_one(out, numbers::write_number_of(reason) as u64),
+        Ok(count) => print_two(out, 0, count as u64),
+        Err(reason) => print_one(out, numbers::write_number_of(reason) as u64),
     }
 }
 
@@ -31,8 +31,8 @@ pub fn print_reading<W: Write>(out: &mut W, reading: Reading, table: &[u32]) -> 
 {
     print_answer(out, reading)?;
     match reading {
-        Reading::Accepted(counts) => print_rows(out, table, counts.rows),
-        Reading::Refused(_) => Ok(()),
+        Ok(counts) => print_rows(out, table, counts.rows),
+        Err(_) => Ok(()),
     }
 }
 
@@ -41,13 +41,13 @@ pub fn print_answer<W: Write>(out: &mut W, reading: Reading) -> io::Result<()>
     ensures { OnOk result (Appends (W.contents out.old) (W.contents out.new) (line_of (answer_of reading))) }
 {
     match reading {
-        Reading::Accepted(counts) => print_three(
+        Ok(counts) => print_three(
             out,
             0,
             counts.envelopes as u64,
             counts.rows as u64,
         ),
-        Reading::Refused(refusal) => {
+        Err(refusal) => {
             let reason = refusal.reason;
             print_two(out, numbers::number_of(reason) as u64, refusal.place as u64)
         }

@@ -1,4 +1,5 @@
 -- What a table with room for every message holds after reading, and that what is written from it is the message.
+use Rattle.std.specs.Prelude.{Err, Ok}
 use Prim.Native.Nat.{ℕ, ◌*◌, ◌≤◌}
 use mathlib.Core.Path.{◌≡◌, refl, sym, ap, ◌∙◌}
 use mathlib.Core.List.{List}
@@ -7,14 +8,12 @@ use lib.ListN.{length, get_or, take}
 use Rattle.label.specs.declared.Edition.{Edition}
 use Rattle.label.specs.declared.Counts.{Counts}
 use Rattle.label.specs.declared.Refusal.{Refusal}
-use Rattle.label.specs.declared.Reading.TheVariants.{Accepted, Refused}
-use Rattle.label.specs.declared.Writing.{Writing}
 use Rattle.label.specs.Bytes.{Bytes}
 use Rattle.label.specs.Limits.{most_rows, row_width}
 use Rattle.label.specs.Message.{rows_of, numbers_of}
 use Rattle.label.specs.ReadMessage.{Outcome, read, refused, reading}
 use Rattle.label.specs.Answer.{answer_of, room_of, answered, read_answer, table_after, numbers_read}
-use Rattle.label.specs.Writing.{write_answer_of, write_answer, output_after}
+use Rattle.label.specs.Writing.{write_answer_of, write_answer, output_after, Writing}
 use Rattle.label.proofs.Promises.{accepted_is_good, good_is_read, good_is_accepted}
 use Rattle.label.proofs.RowItems.{table_numbers}
 use Rattle.label.proofs.WriterPromises.{written_back_counted, written_back_there}
@@ -22,7 +21,7 @@ use Rattle.round.specs.Round.{HoldsRead, GoesRound}
 
 module _ (edition : Edition) (m : Bytes) (table after : List ℕ) (ample : row_width * most_rows ≤ length table) (long : length after ≡ length table) (is : after ≡ table_after edition m table) where
   -- accepted: as many rows as are read, and the table's first numbers are theirs
-  pub holds_accepted : (counts : Counts) → answer_of (Accepted counts) ≡ read_answer edition m (room_of table) → HoldsRead edition m (row_width * counts.rows) after
+  pub holds_accepted : (counts : Counts) → answer_of (Ok counts) ≡ read_answer edition m (room_of table) → HoldsRead edition m (row_width * counts.rows) after
   unfolding read_answer
   holds_accepted counts says = by (reading edition m) refl
     where
@@ -38,7 +37,7 @@ module _ (edition : Edition) (m : Bytes) (table after : List ℕ) (ample : row_w
       by (refused r p) reads = absurd (omega (arith, ap length (says ∙ ap (answered (room_of table)) reads)))
 
   -- refused: no row is read
-  pub holds_refused : (r : Refusal) → answer_of (Refused r) ≡ read_answer edition m (room_of table) → HoldsRead edition m 0 after
+  pub holds_refused : (r : Refusal) → answer_of (Err r) ≡ read_answer edition m (room_of table) → HoldsRead edition m 0 after
   holds_refused r says = by (reading edition m) refl
     where
       by : (o : Outcome) → reading edition m ≡ o → HoldsRead edition m 0 after

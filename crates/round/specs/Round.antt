@@ -1,13 +1,12 @@
 -- What it is that a message goes round: it is read, and what is read is written.
 use Rattle.std.specs.Prelude.{ℕ, ◌≤◌, ◌≡◌, List, [], ◌∷◌, length, take}
 use Rattle.label.specs.declared.Edition.{Edition}
-use Rattle.label.specs.declared.Writing.{Writing}
 use Rattle.label.specs.Bytes.{Bytes}
 use Rattle.label.specs.Envelope.{Envelope}
 use Rattle.label.specs.Message.{Good}
 use Rattle.label.specs.ReadMessage.{reading}
 use Rattle.label.specs.Answer.{overlaid, numbers_read}
-use Rattle.label.specs.Writing.{write_answer_of}
+use Rattle.label.specs.Writing.{write_answer_of, Writing}
 
 -- so many of a table's first numbers are those read
 pub record HoldsRead (edition : Edition) (m : Bytes) (n : ℕ) (table : List ℕ) : Type 0 where

@@ -17,8 +17,8 @@ fn numbers_into(edition: Edition, message: &[u8], table: &mut [u32]) -> usize
 {
     let reading = reader::read(edition, message, table);
     match reading {
-        Reading::Accepted(counts) => ROW * counts.rows,
-        Reading::Refused(_) => 0,
+        Ok(counts) => ROW * counts.rows,
+        Err(_) => 0,
     }
 }
 

@@ -16,8 +16,8 @@ pub fn rows_of(edition: Edition, m: &[u8]) -> usize
 {
     let judged = judge::judge(edition, m);
     match judged {
-        Reading::Accepted(counts) => counts.rows,
-        Reading::Refused(refusal) => 0,
+        Ok(counts) => counts.rows,
+        Err(refusal) => 0,
     }
 }
 

@@ -20,8 +20,7 @@ use Rattle.leaves.specs.declared.Class.TheVariants.{Plain, Digit}
 use Rattle.leaves.specs.Classes.{class_of}
 use Rattle.leaves.specs.Seek.{seek}
 use Rattle.tallies.proofs.Agreement.{agree_on}
-use Rattle.envelope.specs.declared.Found.{Found}
-use Rattle.envelope.specs.declared.Found.TheVariants.{Closed}
+use Rattle.envelope.specs.Judged.{Judged, closed_at}
 use Rattle.envelope.specs.Shown.{shown}
 use Rattle.envelope.specs.Headers.{value_end}
 use Rattle.envelope.specs.Formats.{payload_found, after_value, count_found, compression_found, counted_found}
@@ -165,7 +164,7 @@ module _ (f : ℕ) (m : Bytes) (at end next : ℕ) (is : next ≡ end + 1) (insi
   unfolding following
   behind_count = ap (λ s. standing Body f s (count_from 0 (drop at m))) behind
 
-  after_value_lem : (there : ℕ → Found) → after_value m end there ≡ there next
+  after_value_lem : (there : ℕ → Judged) → after_value m end there ≡ there next
   after_value_lem there = cond_yes _ _ _ (lt-ltb end (length m) (omega arith)) ∙ ap there (sym is)
 
   compression_closes : end ≡ value_end 0 30 plain m at → compression_found m at ≡ count_found 5 m next
@@ -173,7 +172,7 @@ module _ (f : ℕ) (m : Bytes) (at end next : ℕ) (is : next ≡ end + 1) (insi
 
   -- the count's number is the payload's length
   count_closes : length m ≤ longest → (total n : ℕ) → end ≡ value_end 1 15 digit m at → RunsTo digit m at end → n ≡ count_from 0 (drop at m) → n < length m - next → get_or m (next + n) 0 ≡ RS
-      → count_found total m at ≡ Closed (next + n + 1) total
+      → count_found total m at ≡ closed_at (next + n + 1) total
   count_closes short total n ends runs counted fits rs =
       let size : end - at ≡ run_of digit (drop at m) = omega (arith, runs.runs) in
       let made : value (take (end - at) (drop at m)) ≡ n = ap (λ k. value (take k (drop at m))) size ∙ count_made 0 (drop at m) (omega arith) ∙ sym counted in
@@ -274,7 +273,7 @@ module _ (m : Bytes) (from at rows : ℕ) (framed : Framed m) (inside : at < len
         more = omega (arith, part.counts);
         inside = part.inside;
         closes = λ first only.
-            counted_shown m at more first ∙ counted_closes m at more swept.end next gs swept.behind swept.inside swept.ends ∙ part.closes ∙ ap (Closed p.next) five;
+            counted_shown m at more first ∙ counted_closes m at more swept.end next gs swept.behind swept.inside swept.ends ∙ part.closes ∙ ap (closed_at p.next) five;
         noted = part.noted;
       }
 
@@ -291,6 +290,6 @@ count_only_swept m from at rows new p inside swept =
     record {
       more = omega (arith, part.counts);
       inside = part.inside;
-      closes = λ first only. shown_count_only 15 m at (omega arith) ∙ part.closes ∙ ap (Closed p.next) three;
+      closes = λ first only. shown_count_only 15 m at (omega arith) ∙ part.closes ∙ ap (closed_at p.next) three;
       noted = part.noted;
     }

@@ -26,7 +26,7 @@ use Rattle.leaves.proofs.Turns.{drop_step}
 use Rattle.pieces.specs.declared.Kind.{Kind}
 use Rattle.pieces.specs.declared.Kind.TheVariants.{Fields02, Fields96, Segments03, Segments04, Elements05, Elements06, Text, Elements12}
 use Rattle.pieces.proofs.SeekLaws.{seek_found}
-use Rattle.envelope.specs.declared.Found.TheVariants.{Closed, Refused}
+use Rattle.envelope.specs.Judged.{closed_at, no_envelope}
 use Rattle.envelope.specs.Shown.{shown}
 use Rattle.envelope.specs.Headers.{indicator_of}
 use Rattle.envelope.specs.Bodies.{body_found}
@@ -64,7 +64,7 @@ module _ (m : Bytes) (w : Wanted) (at rows f n : ℕ) (notes : List ℕ) (is : f
 -- Elements
 
 module _ (m : Bytes) (from at rows : ℕ) (inside : at < length m) (gs : get_or m at 0 ≡ GS) where
-  elements_shown : (k : Kind) (f : ℕ) → ElementsOf k f → (first : Bool) → shown m (read_by (rule_of widest f) first f (drop at m)) ≡ cond (begins_at (GS ∷ []) m at) (body_found k 1 m (at + 1)) (Refused BadFormatHeader)
+  elements_shown : (k : Kind) (f : ℕ) → ElementsOf k f → (first : Bool) → shown m (read_by (rule_of widest f) first f (drop at m)) ≡ cond (begins_at (GS ∷ []) m at) (body_found k 1 m (at + 1)) (no_envelope BadFormatHeader)
   unfolding rule_of read_by
   elements_shown Elements05 f is first = ap (λ f. shown m (read_by (rule_of widest f) first f (drop at m))) is ∙ shown_elements Elements05 element05 5 m at (omega arith) refl (λ body. refl)
   elements_shown Elements06 f is first = ap (λ f. shown m (read_by (rule_of widest f) first f (drop at m))) is ∙ shown_elements Elements06 element06 6 m at (omega arith) refl (λ body. refl)
@@ -133,7 +133,7 @@ module _ (m : Bytes) (framed : Framed m) (from at rows end : ℕ) (inside : at <
       record {
         more = omega arith;
         inside = text_more;
-        closes = λ first only. shown_text 7 m at (omega arith) ∙ sym (body_closed Text 1 m at end (omega arith) is ended permitted refl) ∙ ap (Closed (end + 1)) two;
+        closes = λ first only. shown_text 7 m at (omega arith) ∙ sym (body_closed Text 1 m at end (omega arith) is ended permitted refl) ∙ ap (closed_at (end + 1)) two;
         noted = subst (Noted m from new (rows + 1)) (ap (next_cursor m) same ∙ text_next) (one m (subst (Noted m from old rows) (text_here ∙ sym same) noted));
       }
 
@@ -190,6 +190,6 @@ module _ (m : Bytes) (framed : Framed m) (from at rows f : ℕ) (is : Indicates 
         closes = λ first only.
             ap (shown m) (read_some edition first f (drop at m) is.says (omega (arith, is.known)) ∙ (λ i. read_by (known.0 i) first f (drop-drop 2 at m i)))
             ∙ format.closes first (λ e. only (sym here ∙ e))
-            ∙ ap (Closed p.next) count;
+            ∙ ap (closed_at p.next) count;
         noted = format.noted;
       }

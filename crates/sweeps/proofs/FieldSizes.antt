@@ -7,7 +7,8 @@ use lib.ListN.{length, get_or}
 use lib.Dec.{leb, eqb}
 use Rattle.label.specs.Bytes.{Bytes, plain, every, is_empty}
 use Rattle.label.specs.Limits.{limit_of, long_as}
-use Rattle.label.specs.Values.{Version, version02, version96}
+use Rattle.label.specs.declared.Version.{Version}
+use Rattle.label.specs.declared.Version.TheVariants.{Version02, Version96}
 use Rattle.label.specs.Fields.{field_bytes, least_fields, version_row, field}
 use Rattle.leaves.proofs.Turns.{and_true}
 use Rattle.pieces.specs.declared.Kind.{Kind}
@@ -36,8 +37,8 @@ module _ (i : ℕ) (other : ((((eqb i 8 || eqb i 9) || eqb i 10) || eqb i 1) || 
       (λ j. sym (and_true long) j || (leb least_fields i && no_bytes p j)) ∙ ap (λ t. (long && t) || (leb least_fields i && is_empty p)) (sym (column v))
 
   pub field_sized : (k : Kind) (n : ℕ) → length p ≡ n → size_fits k i n ≡ true → piece_test k i p ≡ true
-  field_sized Fields02 n long fits = sym (version_sized version02) ∙ ap (fits_in 0 i) long ∙ fits
-  field_sized Fields96 n long fits = sym (version_sized version96) ∙ ap (fits_in 1 i) long ∙ fits
+  field_sized Fields02 n long fits = sym (version_sized Version02) ∙ ap (fits_in 0 i) long ∙ fits
+  field_sized Fields96 n long fits = sym (version_sized Version96) ∙ ap (fits_in 1 i) long ∙ fits
   field_sized Segments03 n long fits = absurd (false≢true fits)
   field_sized Segments04 n long fits = absurd (false≢true fits)
   field_sized Elements05 n long fits = absurd (false≢true fits)

@@ -10,7 +10,8 @@ use lib.ListN.{length, get_or, take, drop}
 use lib.Dec.{leb, ltb, eqb}
 use Rattle.label.specs.Bytes.{Bytes, GS, RS, plain, every, is_empty}
 use Rattle.label.specs.Pieces.{pieces, last_is_empty}
-use Rattle.label.specs.Values.{Version, version02, version96}
+use Rattle.label.specs.declared.Version.{Version}
+use Rattle.label.specs.declared.Version.TheVariants.{Version02, Version96}
 use Rattle.label.specs.Fields.{least_fields, most_fields, field, transport}
 use Rattle.label.specs.ReadEnvelope.{plain_or_gs}
 use Rattle.label.proofs.Splitting.{pieces_some, pieces_one, pieces_front}
@@ -21,8 +22,7 @@ use Rattle.pieces.specs.declared.Kind.TheVariants.{Fields02, Fields96, Segments0
 use Rattle.pieces.specs.PieceTests.{piece_test}
 use Rattle.bodies.specs.Kinds.{every_from}
 use Rattle.bodies.proofs.RuleLaws.{fields_law}
-use Rattle.envelope.specs.declared.Found.{Found}
-use Rattle.envelope.specs.declared.Found.TheVariants.{Closed}
+use Rattle.envelope.specs.Judged.{Judged, closed_at}
 use Rattle.walk.specs.declared.Stage.TheVariants.{Piece}
 use Rattle.walk.specs.declared.Cursor.{Cursor}
 use Rattle.walk.specs.Cursors.{standing, plain_row, indicator_at, next_cursor}
@@ -81,7 +81,7 @@ module _ (test : ℕ → Bytes → Bool) (most : ℕ) where
 -- The sweep
 
 -- what is found from the field with an index on
-abbrev pub fields_found : Kind → ℕ → Bytes → ℕ → ℕ → ℕ → Found
+abbrev pub fields_found : Kind → ℕ → Bytes → ℕ → ℕ → ℕ → Judged
 fields_found k most m i before at = found_from (fields_from (piece_test k) most) m i before at
 
 version_whole : (v : Version) (most : ℕ) → most ≡ most_fields v → (body : Bytes) → transport v (pieces GS body) ≡ fields_from (field v) most 0 body
@@ -95,11 +95,11 @@ unfolding body_kept
 fields_whole Fields02 most of m before at =
     let bs = drop at m in
     let n = seek RS bs in
-    λ j. found_by (ltb n (length bs)) (every plain_or_gs (take n bs)) (version_whole version02 most of (take n bs) j) (at + n + 1) (before + (tally_of GS (take n bs) + 1))
+    λ j. found_by (ltb n (length bs)) (every plain_or_gs (take n bs)) (version_whole Version02 most of (take n bs) j) (at + n + 1) (before + (tally_of GS (take n bs) + 1))
 fields_whole Fields96 most of m before at =
     let bs = drop at m in
     let n = seek RS bs in
-    λ j. found_by (ltb n (length bs)) (every plain_or_gs (take n bs)) (version_whole version96 most of (take n bs) j) (at + n + 1) (before + (tally_of GS (take n bs) + 1))
+    λ j. found_by (ltb n (length bs)) (every plain_or_gs (take n bs)) (version_whole Version96 most of (take n bs) j) (at + n + 1) (before + (tally_of GS (take n bs) + 1))
 fields_whole Segments03 most of m before at = absurd of
 fields_whole Segments04 most of m before at = absurd of
 fields_whole Elements05 most of m before at = absurd of
@@ -162,6 +162,6 @@ module _ (m : Bytes) (framed : Framed m) (from : ℕ) (k : Kind) (most start bef
             kept_closed k n m start next (n + (rows + 1 - before))
             (stands.same n
             ∙ message_last m at end to.runs (fields_from (piece_test k) most) (rows - before) (n + (rows - before)) last is
-            ∙ (λ j. Closed (sym behind j) (more_rows n j)));
+            ∙ (λ j. closed_at (sym behind j) (more_rows n j)));
         noted = subst (Noted m from new (rows + 1)) (piece_last m 1 at end to.runs is more ∙ ap (indicator_at m) (sym behind)) noted_on;
       }

@@ -1,4 +1,5 @@
 -- The sweep over a message, an envelope at a time: where it stands, that a swept envelope keeps this, and that EOT behind the last one makes the message good.
+use Rattle.std.specs.Prelude.{Ok}
 use Prim.Native.Nat.{ℕ, ◌+◌, ◌-◌, ◌≤◌, ◌<◌}
 use mathlib.Core.Path.{◌≡◌, refl, sym, ap, ◌∙◌, subst}
 use mathlib.Core.Bool.{Bool, true, false}
@@ -7,7 +8,6 @@ use native.Mathlib.Omega.{arith}
 use borrow.Author.Tests.{ne_eqb, eq-eqb, le-ltb}
 use lib.ListN.{length, get_or, drop}
 use Rattle.label.specs.declared.Counts.{Counts}
-use Rattle.label.specs.declared.Reading.TheVariants.{Accepted}
 use Rattle.label.specs.declared.Edition.{Edition}
 use Rattle.label.specs.Bytes.{Bytes, EOT}
 use Rattle.label.specs.Limits.{most_rows}
@@ -88,7 +88,7 @@ module _ (edition : Edition) (m : Bytes) (from : ℕ) (notes : List ℕ) (at env
       }
 
   -- the end
-  good_end : get_or m p.next 0 ≡ EOT → length m ≡ p.next + 1 → p.rows ≤ most_rows → judged_as (reading edition m) ≡ Accepted (record { envelopes = envelopes + 1; rows = p.rows })
+  good_end : get_or m p.next 0 ≡ EOT → length m ≡ p.next + 1 → p.rows ≤ most_rows → judged_as (reading edition m) ≡ Ok (record { envelopes = envelopes + 1; rows = p.rows })
   good_end is last few =
       let counts : Counts = record { envelopes = envelopes + 1; rows = p.rows } in
       let so = subst (TurnSo edition m here) (sym (boundary_last m p.next (envelopes + 1) p.rows swept.inside (eq-eqb (get_or m p.next 0) EOT is) (omega (arith, last)))) turned in
@@ -98,7 +98,7 @@ module _ (edition : Edition) (m : Bytes) (from : ℕ) (notes : List ℕ) (at env
 
   pub ended_so : get_or m p.next 0 ≡ EOT → (most : ℕ) → most ≤ most_rows → (r : Swept) → EndsSo m p.next (envelopes + 1) p.rows most r → SweptSo edition m (record { from = from; most = most }) new r
   ended_so is most within (Good counts) so = record {
-    judged = good_end is so.0.0 (omega (arith, so.0.1)) ∙ ap Accepted (sym so.1);
+    judged = good_end is so.0.0 (omega (arith, so.0.1)) ∙ ap Ok (sym so.1);
     few = omega (arith, so.0.1, ap (λ (c : Counts). c.rows) so.1);
     kept = subst (Kept m from new) (sym (ap (λ (c : Counts). c.rows) so.1)) swept.noted.kept;
   }

@@ -23,8 +23,7 @@ use Rattle.pieces.specs.declared.Kind.TheVariants.{Fields02, Fields96, Segments0
 use Rattle.pieces.specs.PieceTests.{piece_test}
 use Rattle.bodies.specs.Kinds.{permitted_of, rules_of, rows_of_body}
 use Rattle.bodies.proofs.PieceLaws.{leb_same}
-use Rattle.envelope.specs.declared.Found.{Found}
-use Rattle.envelope.specs.declared.Found.TheVariants.{Closed, Refused}
+use Rattle.envelope.specs.Judged.{Judged, closed_at, no_envelope}
 use Rattle.faults.specs.PieceFaults.{fault_of}
 use Rattle.envelope.specs.Bodies.{fault_found, body_found}
 use Rattle.walk.specs.Cursors.{run_of, plain_run}
@@ -56,23 +55,23 @@ pub no_gs : (p : Bytes) → every plain p ≡ true → free GS p ≡ true
 no_gs p ok = free_of GS plain (plain_without GS (omega arith)) p ok
 
 -- what is found, by the three tests
-abbrev pub found_by : Bool → Bool → Bool → ℕ → ℕ → Found
-found_by ended permitted kept next rows = cond ended (cond permitted (cond kept (Closed next rows) (Refused BodyBreaksRules)) (Refused ByteNotPermitted)) (Refused NoRecordSeparator)
+abbrev pub found_by : Bool → Bool → Bool → ℕ → ℕ → Judged
+found_by ended permitted kept next rows = cond ended (cond permitted (cond kept (closed_at next rows) (no_envelope BodyBreaksRules)) (no_envelope ByteNotPermitted)) (no_envelope NoRecordSeparator)
 
 -- what is found of a body, whatever its fault is if it breaks its rules: a fault's place tells where the body began, and the sweep asks only if it is closed
-unfoldable pub body_kept : Kind → ℕ → Bytes → ℕ → Found
+unfoldable pub body_kept : Kind → ℕ → Bytes → ℕ → Judged
 body_kept k before m at =
     found_by (ltb (seek RS (drop at m)) (length (drop at m))) (every (permitted_of k) (take (seek RS (drop at m)) (drop at m))) (rules_of k (take (seek RS (drop at m)) (drop at m)))
     (at + seek RS (drop at m) + 1) (before + rows_of_body k (take (seek RS (drop at m)) (drop at m)))
 
-pub kept_closed : (k : Kind) (before : ℕ) (m : Bytes) (at next rows : ℕ) → body_kept k before m at ≡ Closed next rows → body_found k before m at ≡ Closed next rows
+pub kept_closed : (k : Kind) (before : ℕ) (m : Bytes) (at next rows : ℕ) → body_kept k before m at ≡ closed_at next rows → body_found k before m at ≡ closed_at next rows
 unfolding body_kept body_found
 kept_closed k before m at next rows closes =
     by (ltb (seek RS (drop at m)) (length (drop at m))) (every (permitted_of k) (take (seek RS (drop at m)) (drop at m))) (rules_of k (take (seek RS (drop at m)) (drop at m)))
     _ (fault_found at (fault_of k (take (seek RS (drop at m)) (drop at m)))) closes
   where
-    by : (ended permitted kept : Bool) (here fault : Found) → cond ended (cond permitted (cond kept here (Refused BodyBreaksRules)) (Refused ByteNotPermitted)) (Refused NoRecordSeparator) ≡ Closed next rows
-        → cond ended (cond permitted (cond kept here fault) (Refused ByteNotPermitted)) (Refused NoRecordSeparator) ≡ Closed next rows
+    by : (ended permitted kept : Bool) (here fault : Judged) → cond ended (cond permitted (cond kept here (no_envelope BodyBreaksRules)) (no_envelope ByteNotPermitted)) (no_envelope NoRecordSeparator) ≡ closed_at next rows
+        → cond ended (cond permitted (cond kept here fault) (no_envelope ByteNotPermitted)) (no_envelope NoRecordSeparator) ≡ closed_at next rows
     by true true true here fault closes = closes
     by true true false here fault closes = let z : ◌≡◌ {A = ℕ} 0 1 = cc in absurd (omega arith)
     by true false kept here fault closes = closes
@@ -80,7 +79,7 @@ kept_closed k before m at next rows closes =
 
 module _ (rule : ℕ → Bytes → Bool) where
   -- what is found of pieces from an index on that keep a rule together, in bytes that begin at an offset, given how long the body is
-  abbrev pieces_found : ℕ → ℕ → ℕ → Bytes → ℕ → Found
+  abbrev pieces_found : ℕ → ℕ → ℕ → Bytes → ℕ → Judged
   pieces_found i before at bs n = found_by (ltb n (length bs)) (every plain_or_gs (take n bs)) (rule i (take n bs)) (at + n + 1) (before + (tally_of GS (take n bs) + 1))
 
   -- behind a piece the rest is to keep the rule, one index on
@@ -112,7 +111,7 @@ module _ (rule : ℕ → Bytes → Bool) where
         ∙ (λ j. found_by (ltb n (length rest)) (every_front plain_or_gs p (GS ∷ body) plain_gs j) (passes body j) (at + length p + 1 + n + 1) (rows j))
 
     -- the last piece and the RS
-    list_last : rule i p ≡ true → pieces_found i before at (p ++ (RS ∷ rest)) (seek RS (p ++ (RS ∷ rest))) ≡ Closed (at + length p + 1) (before + 1)
+    list_last : rule i p ≡ true → pieces_found i before at (p ++ (RS ∷ rest)) (seek RS (p ++ (RS ∷ rest))) ≡ closed_at (at + length p + 1) (before + 1)
     list_last right =
         let first : seek RS (p ++ (RS ∷ rest)) ≡ length p = seek_behind RS p (RS ∷ rest) no_rs_lem ∙ omega arith in
         let cut : take (length p) (p ++ (RS ∷ rest)) ≡ p = take-append_seam p (RS ∷ rest) in
@@ -124,7 +123,7 @@ module _ (rule : ℕ → Bytes → Bool) where
         ∙ (λ j. found_by true (plain_gs j) (right j) (at + length p + 1) (rows j))
 
   -- what is found of a message from the piece with an index on
-  abbrev pub found_from : Bytes → ℕ → ℕ → ℕ → Found
+  abbrev pub found_from : Bytes → ℕ → ℕ → ℕ → Judged
   found_from m i before at = pieces_found i before at (drop at m) (seek RS (drop at m))
 
 -- a run of plain bytes and what stands behind it
@@ -155,11 +154,11 @@ module _ (m : Bytes) (at end : ℕ) (to : RunsTo plain m at end) where
         ∙ list_on rule i before at piece (drop (end + 1) m) piece_plain passes
         ∙ ap (λ n. pieces_found rule (i + 1) (before + 1) n (drop (end + 1) m) (seek RS (drop (end + 1) m))) next_is
 
-    pub message_last : rule i piece ≡ true → get_or m end 0 ≡ RS → found_from rule m i before at ≡ Closed (end + 1) (before + 1)
+    pub message_last : rule i piece ≡ true → get_or m end 0 ≡ RS → found_from rule m i before at ≡ closed_at (end + 1) (before + 1)
     message_last right is =
         ap (λ bs. pieces_found rule i before at bs (seek RS bs)) (bytes_there ∙ ap (λ b. piece ++ (b ∷ drop (end + 1) m)) is)
         ∙ list_last rule i before at piece (drop (end + 1) m) piece_plain right
-        ∙ ap (λ n. Closed n (before + 1)) next_is
+        ∙ ap (λ n. closed_at n (before + 1)) next_is
 
 -- elements are tested one by one, whatever their index
 module _ (test : Bytes → Bool) (m : Bytes) (at end before : ℕ) (to : PassesTo test m at end) where
@@ -172,7 +171,7 @@ module _ (test : Bytes → Bool) (m : Bytes) (at end before : ℕ) (to : PassesT
       message_on m at end to.runs elements 0 before
       (λ body. ap (every test) (pieces_front GS p body (no_gs p (piece_plain m at end to.runs))) ∙ ap (λ t. t && every test (pieces GS body)) to.passes) is
 
-  elements_last : get_or m end 0 ≡ RS → found_from elements m 0 before at ≡ Closed (end + 1) (before + 1)
+  elements_last : get_or m end 0 ≡ RS → found_from elements m 0 before at ≡ closed_at (end + 1) (before + 1)
   elements_last is =
       let p = piece m at end to.runs in
       message_last m at end to.runs elements 0 before
@@ -191,7 +190,7 @@ module _ (m : Bytes) (at end before f : ℕ) where
   body_on Segments04 of to is = absurd of
   body_on Text of to is = absurd of
 
-  pub body_last : (k : Kind) → ElementsOf k f → PassesTo (piece_test k 0) m at end → get_or m end 0 ≡ RS → body_kept k before m at ≡ Closed (end + 1) (before + 1)
+  pub body_last : (k : Kind) → ElementsOf k f → PassesTo (piece_test k 0) m at end → get_or m end 0 ≡ RS → body_kept k before m at ≡ closed_at (end + 1) (before + 1)
   unfolding body_kept
   body_last Elements05 of to is = elements_last element05 m at end before to is
   body_last Elements06 of to is = elements_last element06 m at end before to is

@@ -24,8 +24,7 @@ use Rattle.leaves.specs.Seek.{seek, tally_of}
 use Rattle.leaves.proofs.Turns.{drop_step, seek_behind, tally_behind}
 use Rattle.pieces.specs.declared.Kind.TheVariants.{Segments03, Segments04}
 use Rattle.bodies.proofs.PieceLaws.{leb_same}
-use Rattle.envelope.specs.declared.Found.{Found}
-use Rattle.envelope.specs.declared.Found.TheVariants.{Closed, Refused}
+use Rattle.envelope.specs.Judged.{Judged, closed_at, no_envelope}
 use Rattle.envelope.specs.Bodies.{body_found}
 use Rattle.envelope.specs.Formats.{segments_found}
 use Rattle.envelope.specs.Shown.{shown}
@@ -80,7 +79,7 @@ module _ (is_tag : Bytes → Bool) where
       by false (q ∷ ps) none = ap (λ t. last_is_empty (q ∷ ps) && true && (t && every (tagged is_tag) (map segment_cut (without_last (q ∷ ps))))) is
 
   -- what is found in bytes that begin at an offset, given how long the body is
-  abbrev found_in : Bool → ℕ → ℕ → Bytes → ℕ → Found
+  abbrev found_in : Bool → ℕ → ℕ → Bytes → ℕ → Judged
   found_in some before at bs n = found_by (ltb n (length bs)) (every segment_byte (take n bs)) (rule some (take n bs)) (at + n + 1) (before + rows_in (take n bs))
 
   list_on : (some : Bool) (before at : ℕ) (p rest : Bytes) → every in_segment p ≡ true → tagged is_tag (segment_cut p) ≡ true
@@ -101,19 +100,19 @@ module _ (is_tag : Bytes → Bool) where
       ∙ (λ i. found_by (ended i) (every segment_byte (cut i)) (rule some (cut i)) (next i) (before + rows_in (cut i)))
       ∙ (λ i. found_by (ltb n (length rest)) (every_front segment_byte p (FS ∷ body) (every_implies in_segment segment_byte inside_permitted p ok) i) (rule_on some p body no_fs is i) (at + length p + 1 + n + 1) (rows i))
 
-  list_last : (before at : ℕ) (rest : Bytes) → found_in true before at (RS ∷ rest) (seek RS (RS ∷ rest)) ≡ Closed (at + 1) before
+  list_last : (before at : ℕ) (rest : Bytes) → found_in true before at (RS ∷ rest) (seek RS (RS ∷ rest)) ≡ closed_at (at + 1) before
   unfolding segments_in
   list_last before at rest =
       let next : at + 0 + 1 ≡ at + 1 = omega arith in
       let rows : before + 0 ≡ before = omega arith in
-      ap (λ t. cond t (Closed (at + 0 + 1) (before + 0)) (Refused NoRecordSeparator)) (lt-ltb 0 (suc (length rest)) (omega arith)) ∙ (λ i. Closed (next i) (rows i))
+      ap (λ t. cond t (closed_at (at + 0 + 1) (before + 0)) (no_envelope NoRecordSeparator)) (lt-ltb 0 (suc (length rest)) (omega arith)) ∙ (λ i. closed_at (next i) (rows i))
 
 -- Kinds of bodies
 
 abbrev tag_for : ℕ → Bytes → Bool
 tag_for f = cond (eqb f 3) tag03 tag
 
-abbrev rest_found : ℕ → Bool → ℕ → Bytes → ℕ → Found
+abbrev rest_found : ℕ → Bool → ℕ → Bytes → ℕ → Judged
 rest_found f some before m at = found_in (tag_for f) some before at (drop at m) (seek RS (drop at m))
 
 body_rest : (f before : ℕ) (m : Bytes) (at : ℕ) → body_found (segments_kind f) before m at ≡ rest_found f false before m at
@@ -229,6 +228,6 @@ module _ (m : Bytes) (f at : ℕ) (least : 3 ≤ f) (most : f ≤ 4) where
             formats_shown (omega arith) first
             ∙ sym (segments_body (segments_kind f) m at (omega arith) (omega arith) class marks)
             ∙ body.closes 2
-            ∙ ap (Closed p.next) count;
+            ∙ ap (closed_at p.next) count;
         noted = body.noted;
       }

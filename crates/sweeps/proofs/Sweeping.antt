@@ -11,7 +11,7 @@ use Rattle.label.specs.Limits.{longest, most_rows}
 use Rattle.pieces.specs.declared.Kind.{Kind}
 use Rattle.pieces.specs.declared.Kind.TheVariants.{Fields02, Fields96, Segments03, Segments04, Elements05, Elements06, Text, Elements12}
 use Rattle.pieces.specs.PieceTests.{piece_test}
-use Rattle.envelope.specs.declared.Found.TheVariants.{Closed}
+use Rattle.envelope.specs.Judged.{closed_at}
 use Rattle.walk.specs.declared.Stage.{Stage}
 use Rattle.walk.specs.declared.Stage.TheVariants.{Piece}
 use Rattle.walk.specs.declared.Cursor.{Cursor}
@@ -100,6 +100,6 @@ module _ (m : Bytes) (framed : Framed m) (from : ℕ) (k : Kind) (f start before
         more = omega (arith, stands.more);
         inside = more;
         closes = λ n. let one_more : n + (rows - before) + 1 ≡ n + (rows + 1 - before) = omega (arith, stands.more) in
-            kept_closed k n m start (end + 1) (n + (rows + 1 - before)) (stands.same n ∙ body_last m at end (n + (rows - before)) f k of to is ∙ ap (Closed (end + 1)) one_more);
+            kept_closed k n m start (end + 1) (n + (rows + 1 - before)) (stands.same n ∙ body_last m at end (n + (rows - before)) f k of to is ∙ ap (closed_at (end + 1)) one_more);
         noted = subst (Noted m from new (rows + 1)) (piece_last m f at end to.runs is more) noted_on;
       }

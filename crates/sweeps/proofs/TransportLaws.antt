@@ -17,7 +17,7 @@ use Rattle.label.proofs.Tests.{both}
 use Rattle.leaves.proofs.Turns.{drop_step}
 use Rattle.pieces.specs.declared.Kind.{Kind}
 use Rattle.pieces.specs.declared.Kind.TheVariants.{Fields02, Fields96}
-use Rattle.envelope.specs.declared.Found.TheVariants.{Closed, Refused}
+use Rattle.envelope.specs.Judged.{closed_at, no_envelope}
 use Rattle.envelope.specs.Bodies.{body_found}
 use Rattle.envelope.specs.Formats.{transport_found}
 use Rattle.envelope.specs.Shown.{shown}
@@ -80,9 +80,9 @@ module _ (m : Bytes) (at rows most : ℕ) (ready : Begins m at rows most) where
     by_version : transport_found m at
         ≡ cond (eqb (agreement (GS ∷ ascii "02") (GS ∷ (a ∷ (b ∷ drop (at + 3) m)))) 3) (body_found Fields02 2 m (at + 3))
         (cond (eqb (agreement (GS ∷ ascii "96") (GS ∷ (a ∷ (b ∷ drop (at + 3) m)))) 3) (body_found Fields96 2 m (at + 3))
-        (Refused BadFormatHeader))
+        (no_envelope BadFormatHeader))
     by_version =
-        ap (λ bs. cond (eqb (agreement (GS ∷ ascii "02") bs) 3) (body_found Fields02 2 m (at + 3)) (cond (eqb (agreement (GS ∷ ascii "96") bs) 3) (body_found Fields96 2 m (at + 3)) (Refused BadFormatHeader))) bytes_there
+        ap (λ bs. cond (eqb (agreement (GS ∷ ascii "02") bs) 3) (body_found Fields02 2 m (at + 3)) (cond (eqb (agreement (GS ∷ ascii "96") bs) 3) (body_found Fields96 2 m (at + 3)) (no_envelope BadFormatHeader))) bytes_there
 
   pub found_02 : get_or m at 0 ≡ GS → (eqb (get_or m (at + 1) 0) 0x30 && eqb (get_or m (at + 2) 0) 0x32) ≡ true → transport_found m at ≡ body_found Fields02 2 m (at + 3)
   found_02 gs is = let k = both (eqb (get_or m (at + 1) 0) 0x30) (eqb (get_or m (at + 2) 0) 0x32) is in by_version gs 0x30 0x32 (eqb-true _ 0x30 k.left) (eqb-true _ 0x32 k.right)
@@ -101,6 +101,6 @@ module _ (m : Bytes) (at rows most : ℕ) (ready : Begins m at rows most) where
       record {
         more = omega (arith, swept.more);
         inside = swept.inside;
-        closes = λ first only. transport_shown first only ∙ found ∙ swept.closes 2 ∙ ap (Closed p.next) one_more;
+        closes = λ first only. transport_shown first only ∙ found ∙ swept.closes 2 ∙ ap (closed_at p.next) one_more;
         noted = swept.noted;
       }

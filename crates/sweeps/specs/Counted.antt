@@ -3,8 +3,7 @@ use Rattle.std.specs.Prelude.{ℕ, ◌+◌, ◌≤◌, ◌<◌, ◌≡◌, true,
 use Rattle.label.specs.Bytes.{Bytes, plain}
 use Rattle.label.specs.Limits.{most_rows}
 use Rattle.leaves.specs.Classes.{class_of}
-use Rattle.envelope.specs.declared.Found.{Found}
-use Rattle.envelope.specs.declared.Found.TheVariants.{Closed}
+use Rattle.envelope.specs.Judged.{Judged, closed_at}
 use Rattle.envelope.specs.Headers.{value_end}
 use Rattle.envelope.specs.Formats.{count_found}
 use Rattle.sweeps.specs.declared.Value.{Value}
@@ -35,10 +34,10 @@ pub record ValueSwept (m : Bytes) (from : ℕ) (v : Value) (at rows next : ℕ) 
   pub noted : Noted m from notes (rows + 1) (following m v.format at end v.stage)
 
 -- what is found from a header value on is closed before the next offset, with an envelope's rows in all, and so many rows are noted
-pub record PartSwept (m : Bytes) (from : ℕ) (found : Found) (total rows : ℕ) (p : Passed) (notes : List ℕ) : Type 0 where
+pub record PartSwept (m : Bytes) (from : ℕ) (found : Judged) (total rows : ℕ) (p : Passed) (notes : List ℕ) : Type 0 where
   pub counts : p.rows ≡ rows
   pub inside : p.next < length m
-  pub closes : found ≡ Closed p.next total
+  pub closes : found ≡ closed_at p.next total
   pub noted : Noted m from notes p.rows (indicator_at m p.next)
 
 -- the count and what follows it, whichever format's they are and so whatever rows the envelope has in all

@@ -1,9 +1,8 @@
 -- What the quick path keeps while it sweeps a message, and what it says when it has swept one: the judgement of the exact reader, and rows of the walk.
 -- Of what it leaves it says nothing.
-use Rattle.std.specs.Prelude.{ℕ, zero, suc, ◌+◌, ◌-◌, ◌*◌, ◌≤◌, ◌<◌, ◌≡◌, Bool, true, cond, List, [], ◌∷◌, length, get_or, take, drop}
+use Rattle.std.specs.Prelude.{ℕ, zero, suc, ◌+◌, ◌-◌, ◌*◌, ◌≤◌, ◌<◌, ◌≡◌, Bool, true, cond, List, [], ◌∷◌, length, get_or, take, drop, Ok}
 use Rattle.label.specs.declared.Edition.{Edition}
 use Rattle.label.specs.declared.Counts.{Counts}
-use Rattle.label.specs.declared.Reading.TheVariants.{Accepted}
 use Rattle.label.specs.Bytes.{Bytes, EOT, plain, digit}
 use Rattle.label.specs.Limits.{longest, most_rows}
 use Rattle.label.specs.Formats.{widest, rule_of}
@@ -15,7 +14,7 @@ use Rattle.label.specs.Answer.{rows_read}
 use Rattle.noted.specs.Noted.{note_width}
 use Rattle.pieces.specs.declared.Kind.{Kind}
 use Rattle.pieces.specs.declared.Kind.TheVariants.{Fields02, Fields96, Segments03, Segments04, Elements05, Elements06, Text, Elements12}
-use Rattle.envelope.specs.declared.Found.TheVariants.{Closed}
+use Rattle.envelope.specs.Judged.{closed_at}
 use Rattle.envelope.specs.Shown.{shown}
 use Rattle.envelope.specs.Headers.{indicator_of}
 use Rattle.envelope.specs.Bodies.{body_found}
@@ -131,7 +130,7 @@ ElementsOf Elements12 f = f ≡ 12
 pub record BodySwept (m : Bytes) (from : ℕ) (k : Kind) (at rows : ℕ) (p : Passed) (notes : List ℕ) : Type 0 where
   pub more : rows ≤ p.rows
   pub inside : p.next < length m
-  pub closes : (before : ℕ) → body_found k before m at ≡ Closed p.next (before + (p.rows - rows))
+  pub closes : (before : ℕ) → body_found k before m at ≡ closed_at p.next (before + (p.rows - rows))
   pub noted : Noted m from notes p.rows (indicator_at m p.next)
 
 -- an envelope that begins behind the header is the first
@@ -142,7 +141,7 @@ FirstAt at first = at ≡ length header → first ≡ true
 pub record FormatSwept (m : Bytes) (from f at rows : ℕ) (p : Passed) (notes : List ℕ) : Type 0 where
   pub more : rows ≤ p.rows
   pub inside : p.next < length m
-  pub closes : (first : Bool) → FirstAt (at - 2) first → shown m (read_by (rule_of widest f) first f (drop at m)) ≡ Closed p.next (1 + (p.rows - rows))
+  pub closes : (first : Bool) → FirstAt (at - 2) first → shown m (read_by (rule_of widest f) first f (drop at m)) ≡ closed_at p.next (1 + (p.rows - rows))
   pub noted : Noted m from notes p.rows (indicator_at m p.next)
 
 -- a format that an edition knows
@@ -153,14 +152,14 @@ KnownSwept edition m from f at rows p notes = (rule_of edition f ≡ rule_of wid
 pub record EnvelopeSwept (edition : Edition) (m : Bytes) (from at rows : ℕ) (p : Passed) (notes : List ℕ) : Type 0 where
   pub more : rows ≤ p.rows
   pub inside : p.next < length m
-  pub closes : (first : Bool) → FirstAt at first → shown m (read_envelope edition first (drop at m)) ≡ Closed p.next (p.rows - rows)
+  pub closes : (first : Bool) → FirstAt at first → shown m (read_envelope edition first (drop at m)) ≡ closed_at p.next (p.rows - rows)
   pub noted : Noted m from notes p.rows (indicator_at m p.next)
 
 -- A message
 
 -- what is said of a swept message: the exact reader's judgement, and the rows that are kept; of a message that is left nothing
 pub record GoodSwept (edition : Edition) (m : Bytes) (w : Wanted) (counts : Counts) (notes : List ℕ) : Type 0 where
-  pub judged : judged_as (reading edition m) ≡ Accepted counts
+  pub judged : judged_as (reading edition m) ≡ Ok counts
   pub few : counts.rows ≤ w.most
   pub kept : Kept m w.from notes counts.rows
 
@@ -183,7 +182,7 @@ EndsSo m at envelopes rows most Left = Unit {0}
 
 -- a message that was swept, with all its rows in the notes
 pub record Handed (edition : Edition) (m : Bytes) (counts : Counts) (notes : List ℕ) : Type 0 where
-  pub judged : judged_as (reading edition m) ≡ Accepted counts
+  pub judged : judged_as (reading edition m) ≡ Ok counts
   pub roomy : note_width * counts.rows ≤ length notes
   pub kept : Kept m 0 notes counts.rows
 

@@ -1,7 +1,7 @@
 -- What the quick path asks of fields while it sweeps format 01: how long one is, how many a version has at most, and what makes the last one right.
 use Rattle.std.specs.Prelude.{ℕ, ◌≤◌, ◌≡◌, Bool, false, ◌&&◌, ◌||◌, leb, eqb}
 use Rattle.label.specs.Limits.{limit_of}
-use Rattle.label.specs.Values.{version02, version96}
+use Rattle.label.specs.declared.Version.TheVariants.{Version02, Version96}
 use Rattle.label.specs.Fields.{least_fields, most_fields}
 use Rattle.pieces.specs.declared.Kind.{Kind}
 use Rattle.pieces.specs.declared.Kind.TheVariants.{Fields02, Fields96, Segments03, Segments04, Elements05, Elements06, Text, Elements12}
@@ -22,8 +22,8 @@ size_fits Elements12 i n = false
 
 -- the kinds of fields, and the most of each
 abbrev pub FieldsOf : Kind → ℕ → Type 0
-FieldsOf Fields02 most = most ≡ most_fields version02
-FieldsOf Fields96 most = most ≡ most_fields version96
+FieldsOf Fields02 most = most ≡ most_fields Version02
+FieldsOf Fields96 most = most ≡ most_fields Version96
 FieldsOf Segments03 most = ⊥
 FieldsOf Segments04 most = ⊥
 FieldsOf Elements05 most = ⊥

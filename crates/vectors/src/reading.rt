@@ -18,7 +18,7 @@ pub(crate) fn run_message<W: Write>(out: &mut W, edition: Edition, text: &[u8]) 
 
 fn print<W: Write>(out: &mut W, reading: Reading, table: &[u32]) -> io::Result<()> {
     match reading {
-        Reading::Accepted(counts) => {
+        Ok(counts) => {
             let rows = counts.rows;
             if rows > MANY {
                 report::print_answer(out, reading)?;
@@ -28,7 +28,7 @@ fn print<W: Write>(out: &mut W, reading: Reading, table: &[u32]) -> io::Result<(
                 report::print_reading(out, reading, table)
             }
         }
-        Reading::Refused(_) => report::print_answer(out, reading),
+        Err(_) => report::print_answer(out, reading),
     }
 }
 

@@ -11,7 +11,9 @@ use lib.Dec.{leb}
 use Rattle.label.specs.declared.Limit.{Limit}
 use Rattle.label.specs.Bytes.{Bytes, EOT, FS, GS, RS, US, plain, capital_or_digit, every}
 use Rattle.label.specs.Limits.{longest, long_as, ◌to◌}
-use Rattle.label.specs.Values.{Version, version02, version96, version_digits, release_length, release, header_value, header_values}
+use Rattle.label.specs.Values.{version_digits, release_length, release, header_value, header_values}
+use Rattle.label.specs.declared.Version.{Version}
+use Rattle.label.specs.declared.Version.TheVariants.{Version02, Version96}
 use Rattle.label.specs.Fields.{transport}
 use Rattle.label.specs.declared.Edition.{Edition}
 use Rattle.label.specs.Formats.{as_fields, as_rest, as_segments, as_elements, as_text, as_counted, unknown, Rule, widest, rule_of}
@@ -29,8 +31,8 @@ use Rattle.walk.proofs.Walks.{Leads, marks_lead, mark_leads, row_yields}
 use Rattle.walk.proofs.Shaped.{seek_stops, indicator_leads, pieces_lead, body_yields, segments_lead, value_leads, count_leads}
 
 version_wide : (v : Version) → 2 ≡ length (version_digits v)
-version_wide version02 = refl
-version_wide version96 = refl
+version_wide Version02 = refl
+version_wide Version96 = refl
 
 release_wide : (six : Bytes) → release six ≡ true → release_length ≡ length six
 unfolding release long_as

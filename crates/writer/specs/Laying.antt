@@ -1,6 +1,5 @@
 -- What it is to lay bytes one behind the other into a buffer, and what is laid there.
-use Rattle.std.specs.Prelude.{ℕ, ◌+◌, ◌-◌, ◌%◌, ◌≤◌, ◌<◌, ◌≡◌, true, cond, List, ◌++◌, length, get_or, take, drop, eqb}
-use Rattle.std.proofs.Math.Option.{Option, none, some}
+use Rattle.std.specs.Prelude.{ℕ, ◌+◌, ◌-◌, ◌%◌, ◌≤◌, ◌<◌, ◌≡◌, true, cond, List, ◌++◌, length, get_or, take, drop, eqb, None, Option, Some}
 use Rattle.label.specs.Bytes.{Bytes}
 use Rattle.label.specs.Limits.{longest, row_width}
 use Rattle.label.specs.Formats.{widest, rule_of}
@@ -49,5 +48,5 @@ pub record Buffered (held : Bytes) (ns : List ℕ) (out : Bytes) : Type 0 where
 
 -- a message, or that there is none, as a number of a buffer's first bytes, 0 where there is none
 abbrev pub Composes : Option Bytes → ℕ → Bytes → Type 0
-Composes none r out = r ≡ 0
-Composes (some m) r out = (r ≡ length m) × (take r out ≡ m)
+Composes None r out = r ≡ 0
+Composes (Some m) r out = (r ≡ length m) × (take r out ≡ m)

@@ -66,16 +66,16 @@ pub fn write(edition: Edition, held: &[u8], rows: &[u32], output: &mut [u8]) -> 
     ensures bytes { output.new ≡ output_after edition held.now rows.now output.old }
 {
     if !given::rows_stand(held, rows) {
-        return Writing::Declined(WriteReason::BadRows);
+        return Err(WriteReason::BadRows);
     }
     let mut candidate = [0u8; LONGEST];
     let count = compose(edition, held, rows, &mut candidate);
     if count == 0 {
-        return Writing::Declined(WriteReason::NoSuchMessage);
+        return Err(WriteReason::NoSuchMessage);
     }
     if output.len() < count {
-        return Writing::Declined(WriteReason::NoOutputRoom);
+        return Err(WriteReason::NoOutputRoom);
     }
     output[..count].copy_from_slice(&candidate[..count]);
-    Writing::Written(count)
+    Ok(count)
 }

@@ -1,4 +1,5 @@
 -- What is answered fits 32-bit numbers: places, counts of envelopes and rows, and byte counts are at most a message's greatest length.
+use Rattle.std.specs.Prelude.{Err, Ok}
 use Prim.Native.Nat.{ℕ, ◌≤◌, ◌<◌}
 use mathlib.Core.Path.{◌≡◌, refl, sym, ap, ◌∙◌}
 use mathlib.Core.Bool.{Bool, true, false, cond, false≢true}
@@ -11,8 +12,6 @@ use Rattle.label.specs.declared.Edition.{Edition}
 use Rattle.label.specs.declared.Counts.{Counts}
 use Rattle.label.specs.declared.Refusal.{Refusal}
 use Rattle.label.specs.declared.Reason.TheVariants.{TooLong, NoMessageHeader, NoRoom}
-use Rattle.label.specs.declared.Reading.TheVariants.{Accepted, Refused}
-use Rattle.label.specs.declared.Writing.TheVariants.{Written}
 use Rattle.label.specs.Bytes.{Bytes, EOT, RS}
 use Rattle.label.specs.Limits.{longest, most_rows}
 use Rattle.label.specs.Layout.{bytes_of}
@@ -55,7 +54,7 @@ module _ (edition : Edition) (m : Bytes) (room : ℕ) where
     pub envelopes : counts.envelopes ≤ longest
     pub rows : counts.rows ≤ most_rows
 
-  pub counts_small : (counts : Counts) → answer_of (Accepted counts) ≡ read_answer edition m room → CountsSmall counts
+  pub counts_small : (counts : Counts) → answer_of (Ok counts) ≡ read_answer edition m room → CountsSmall counts
   unfolding read_answer
   counts_small counts says = by (reading edition m) refl says
     where
@@ -63,13 +62,13 @@ module _ (edition : Edition) (m : Bytes) (room : ℕ) where
       by_room true e r says es rs = absurd (omega (arith, ap length says))
       by_room false e r says es rs = record { envelopes = omega (arith, ap (λ l. get_or l 1 0) says); rows = omega (arith, ap (λ l. get_or l 2 0) says) }
 
-      by : (o : Outcome) → reading edition m ≡ o → answer_of (Accepted counts) ≡ answered room o → CountsSmall counts
+      by : (o : Outcome) → reading edition m ≡ o → answer_of (Ok counts) ≡ answered room o → CountsSmall counts
       by (read es) is says =
           let good = accepted_is_good edition m es is in
           by_room (ltb room (length (rows_of es))) (length es) (length (rows_of es)) says (envelopes_few es (omega (arith, ap length good.writes_out, good.not_too_long))) good.not_too_many
       by (refused r p) is says = absurd (omega (arith, ap length says))
 
-  pub place_small : (r : Refusal) → answer_of (Refused r) ≡ read_answer edition m room → r.place ≤ longest
+  pub place_small : (r : Refusal) → answer_of (Err r) ≡ read_answer edition m room → r.place ≤ longest
   unfolding read_answer
   place_small r says = by (leb (length m) longest) refl
     where
@@ -78,10 +77,10 @@ module _ (edition : Edition) (m : Bytes) (room : ℕ) where
       by false is = omega (arith, ap (λ l. get_or l 1 0) (says ∙ ap (answered room) (too_long edition m (leb-false (length m) longest is))))
 
 -- what is written is no longer than a message
-pub count_small : (edition : Edition) (held : Bytes) (ns : List ℕ) (room n : ℕ) → write_answer_of (Written n) ≡ write_answer edition held ns room → n ≤ longest
+pub count_small : (edition : Edition) (held : Bytes) (ns : List ℕ) (room n : ℕ) → write_answer_of (Ok n) ≡ write_answer edition held ns room → n ≤ longest
 unfolding write_answer
 count_small edition held ns room n says = by (writing edition held ns room) refl says
   where
-    by : (c : Composition) → writing edition held ns room ≡ c → write_answer_of (Written n) ≡ composed_answer c → n ≤ longest
+    by : (c : Composition) → writing edition held ns room ≡ c → write_answer_of (Ok n) ≡ composed_answer c → n ≤ longest
     by (written w) is says = omega (arith, ap (λ l. get_or l 1 0) says, (tells edition held ns room (written w) is).2.good.not_too_long)
     by (declined reason) is says = absurd (omega (arith, ap length says))

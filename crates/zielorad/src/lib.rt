@@ -57,13 +57,13 @@ pub extern "C" fn zielorad_read(edition: u32, message: &[u8], table: &mut [u32])
 {
     let reading = reader::read(edition_in(edition), message, table);
     match reading {
-        Reading::Accepted(counts) => ZieloradReading {
+        Ok(counts) => ZieloradReading {
             number: 0,
             place: 0,
             envelopes: counts.envelopes as u32,
             rows: counts.rows as u32,
         },
-        Reading::Refused(refusal) => {
+        Err(refusal) => {
             let reason = refusal.reason;
             ZieloradReading {
                 number: numbers::number_of(reason),
@@ -88,11 +88,11 @@ pub extern "C" fn zielorad_write(
 {
     let writing = writer::write(edition_in(edition), held, rows, output);
     match writing {
-        Writing::Written(count) => ZieloradWritten {
+        Ok(count) => ZieloradWritten {
             number: 0,
             count: count as u32,
         },
-        Writing::Declined(reason) => ZieloradWritten {
+        Err(reason) => ZieloradWritten {
             number: numbers::write_number_of(reason),
             count: 0,
         },

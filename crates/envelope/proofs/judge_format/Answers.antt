@@ -1,4 +1,5 @@
 -- `judge_format` shows what reading by the format's rule does, an arm for each shape: the law of that shape says it of any format that has it.
+use Rattle.std.specs.Prelude.{Err}
 use mathlib.Core.Path.{refl, sym, ap, ◌∙◌}
 use lib.ListN.{drop}
 use Rattle.label.specs.declared.Reason.TheVariants.{NotFirst}
@@ -22,8 +23,8 @@ returns-then-first c = let args = c.args in
 pub returns-else-first : goal.returns-else-first
 unfolding read_by
 returns-else-first c = let args = c.args in
-    found_by args.edition shape.Fields args.first args.f args.m.now args.at _ (sym (ap rule_for c.in-Fields.is) ∙ c.shape_in-shape.ensures)
-    (ap (λ t. shown args.m.now (must t NotFirst (read_transport args.f (drop args.at args.m.now)))) c.if-first.false)
+    ap Err c.into.ensures ∙ (found_by args.edition shape.Fields args.first args.f args.m.now args.at _ (sym (ap rule_for c.in-Fields.is) ∙ c.shape_in-shape.ensures)
+    (ap (λ t. shown args.m.now (must t NotFirst (read_transport args.f (drop args.at args.m.now)))) c.if-first.false))
 
 pub returns-then-first-2 : goal.returns-then-first-2
 unfolding read_by
@@ -34,8 +35,8 @@ returns-then-first-2 c = let args = c.args in
 pub returns-else-first-2 : goal.returns-else-first-2
 unfolding read_by
 returns-else-first-2 c = let args = c.args in
-    found_by args.edition shape.Rest args.first args.f args.m.now args.at _ (sym (ap rule_for c.in-Rest.is) ∙ c.shape_in-shape.ensures)
-    (ap (λ t. shown args.m.now (must t NotFirst (read_rest rest_byte args.f (drop args.at args.m.now)))) c.if-first-2.false)
+    ap Err c.into-else-first-2.ensures ∙ (found_by args.edition shape.Rest args.first args.f args.m.now args.at _ (sym (ap rule_for c.in-Rest.is) ∙ c.shape_in-shape.ensures)
+    (ap (λ t. shown args.m.now (must t NotFirst (read_rest rest_byte args.f (drop args.at args.m.now)))) c.if-first-2.false))
 
 pub returns-in-Segments03 : goal.returns-in-Segments03
 unfolding read_by
@@ -88,4 +89,4 @@ returns-in-CountOnly c = let args = c.args in
 pub returns-in-Unknown : goal.returns-in-Unknown
 unfolding read_by
 returns-in-Unknown c = let args = c.args in
-    found_by args.edition shape.Unknown args.first args.f args.m.now args.at _ (sym (ap rule_for c.in-Unknown.is) ∙ c.shape_in-shape.ensures) refl
+    ap Err c.into-in-Unknown.ensures ∙ (found_by args.edition shape.Unknown args.first args.f args.m.now args.at _ (sym (ap rule_for c.in-Unknown.is) ∙ c.shape_in-shape.ensures) refl)

@@ -19,11 +19,11 @@ slice_bounds-piece_fault-end c = let inside = find_inside GS c.args.s.now c.loop
     let is = c.find-end.ensures in
     omega arith
 
-pub returns-in-Faulty : goal.returns-in-Faulty
-returns-in-Faulty c = let args = c.args in
+pub returns-in-Some : goal.returns-in-Some
+returns-in-Some c = let args = c.args in
     let loop = c.loop-at in
     let end = c.find-end.result in
-    fault_here (piece_fault args.k) loop.i loop.at _ _ _ _ (pieces_turn GS args.s.now loop.at end c.loop-at-test.true c.find-end.ensures) (sym c.piece_fault-found.ensures ∙ c.in-Faulty.is)
+    fault_here (piece_fault args.k) loop.i loop.at _ _ _ _ (pieces_turn GS args.s.now loop.at end c.loop-at-test.true c.find-end.ensures) (sym c.piece_fault.ensures ∙ c.in-Some.is)
     ∙ loop.invariant.2
 
 pub overflow_add-at : goal.overflow_add-at
@@ -42,7 +42,7 @@ loop-at-preserved c = let args = c.args in
     let next : end + 1 ≡ loop.at + length (take (end - loop.at) (drop loop.at s)) + 1 = omega (arith, length-take (end - loop.at) (drop loop.at s), length-drop loop.at s) in (
       omega arith,
       omega arith,
-      fault_later (piece_fault args.k) loop.i loop.at (end + 1) _ _ _ (pieces_turn GS s loop.at end taken is) (sym c.piece_fault-found.ensures ∙ c.in_default.is) next
+      fault_later (piece_fault args.k) loop.i loop.at (end + 1) _ _ _ (pieces_turn GS s loop.at end taken is) (sym c.piece_fault.ensures ∙ c.in_default.is) next
           ∙ loop.invariant.2,
     )
 

@@ -3,8 +3,8 @@ use mathlib.Core.Path.{sym, ◌∙◌}
 use Rattle.judge.proofs.Judged.{rows_judged, none_judged}
 use Rattle.stretches.proofs.rows_of.Goals as goal
 
-pub returns-in-Accepted : goal.returns-in-Accepted
-returns-in-Accepted c = rows_judged c.args.edition c.args.m.now c.in-Accepted.counts (sym c.judge-judged.ensures ∙ c.in-Accepted.is)
+pub returns-in-Ok : goal.returns-in-Ok
+returns-in-Ok c = rows_judged c.args.edition c.args.m.now c.in-Ok.counts (sym c.judge-judged.ensures ∙ c.in-Ok.is)
 
-pub returns-in-Refused : goal.returns-in-Refused
-returns-in-Refused c = none_judged c.args.edition c.args.m.now c.in-Refused.refusal (sym c.judge-judged.ensures ∙ c.in-Refused.is)
+pub returns-in-Err : goal.returns-in-Err
+returns-in-Err c = none_judged c.args.edition c.args.m.now c.in-Err.refusal (sym c.judge-judged.ensures ∙ c.in-Err.is)

@@ -9,28 +9,28 @@ use Rattle.zielorad.proofs.zielorad_read.Goals as goal
 pub overflow_cast-result : goal.overflow_cast-result
 overflow_cast-result c = let args = c.args in
     let picked = c.edition_in.result in
-    let small = counts_small picked args.message.now (room_of args.table.now) c.in-Accepted.counts (sym (ap answer_of c.in-Accepted.is) ∙ c.read-reading.ensures.answer) in
+    let small = counts_small picked args.message.now (room_of args.table.now) c.in-Ok.counts (sym (ap answer_of c.in-Ok.is) ∙ c.read-reading.ensures.answer) in
     omega (arith, small.envelopes)
 
-pub overflow_cast-result-in-Accepted : goal.overflow_cast-result-in-Accepted
-overflow_cast-result-in-Accepted c = let args = c.args in
+pub overflow_cast-result-in-Ok : goal.overflow_cast-result-in-Ok
+overflow_cast-result-in-Ok c = let args = c.args in
     let picked = c.edition_in.result in
-    let small = counts_small picked args.message.now (room_of args.table.now) c.in-Accepted.counts (sym (ap answer_of c.in-Accepted.is) ∙ c.read-reading.ensures.answer) in
+    let small = counts_small picked args.message.now (room_of args.table.now) c.in-Ok.counts (sym (ap answer_of c.in-Ok.is) ∙ c.read-reading.ensures.answer) in
     omega (arith, small.rows)
 
-pub overflow_cast-result-in-Refused : goal.overflow_cast-result-in-Refused
-overflow_cast-result-in-Refused c = let args = c.args in
+pub overflow_cast-result-in-Err : goal.overflow_cast-result-in-Err
+overflow_cast-result-in-Err c = let args = c.args in
     let picked = c.edition_in.result in
-    let small = place_small picked args.message.now (room_of args.table.now) c.in-Refused.refusal (sym (ap answer_of c.in-Refused.is) ∙ c.read-reading.ensures.answer) in
+    let small = place_small picked args.message.now (room_of args.table.now) c.in-Err.refusal (sym (ap answer_of c.in-Err.is) ∙ c.read-reading.ensures.answer) in
     omega (arith, small)
 
-pub returns-in-Accepted : goal.returns-in-Accepted
-returns-in-Accepted c = let args = c.args in
+pub returns-in-Ok : goal.returns-in-Ok
+returns-in-Ok c = let args = c.args in
     let read = c.read-reading in
     let answer : answer_of read.result ≡ read_answer (edition_in args.edition) args.message.now (room_of args.table.now) = read.ensures.answer ∙ ap (λ e. read_answer e args.message.now (room_of args.table.now)) c.edition_in.ensures in
-    record { answer = ap reading_of (sym (ap answer_of c.in-Accepted.is) ∙ answer); rows = read.ensures.rows ∙ ap (λ e. table_after e args.message.now args.table.now) c.edition_in.ensures }
+    record { answer = ap reading_of (sym (ap answer_of c.in-Ok.is) ∙ answer); rows = read.ensures.rows ∙ ap (λ e. table_after e args.message.now args.table.now) c.edition_in.ensures }
 
-pub returns-in-Refused : goal.returns-in-Refused
-returns-in-Refused c = let args = c.args in
+pub returns-in-Err : goal.returns-in-Err
+returns-in-Err c = let args = c.args in
     let read = c.read-reading in
-    let answer : answer_of read.result ≡ read_answer (edition_in args.edition) args.message.now (room_of args.table.now) = read.ensures.answer ∙ ap (λ e. read_answer e args.message.now (room_of args.table.now)) c.edition_in.ensures in record { answer = ap (λ n. record { number = n; place = c.in-Refused.refusal.place; envelopes = 0; rows = 0 }) c.number_of.ensures ∙ ap reading_of (sym (ap answer_of c.in-Refused.is) ∙ answer); rows = read.ensures.rows ∙ ap (λ e. table_after e args.message.now args.table.now) c.edition_in.ensures }
+    let answer : answer_of read.result ≡ read_answer (edition_in args.edition) args.message.now (room_of args.table.now) = read.ensures.answer ∙ ap (λ e. read_answer e args.message.now (room_of args.table.now)) c.edition_in.ensures in record { answer = ap (λ n. record { number = n; place = c.in-Err.refusal.place; envelopes = 0; rows = 0 }) c.number_of.ensures ∙ ap reading_of (sym (ap answer_of c.in-Err.is) ∙ answer); rows = read.ensures.rows ∙ ap (λ e. table_after e args.message.now args.table.now) c.edition_in.ensures }

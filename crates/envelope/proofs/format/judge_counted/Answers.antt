@@ -1,29 +1,17 @@
 -- `judge_counted` is `counted_found`.
-use mathlib.Core.Path.{sym, ap, ◌∙◌}
-use native.Mathlib.Omega.{arith}
-use mathlib.Core.List.{[], ◌∷◌}
-use lib.ListN.{length}
-use borrow.Author.Tests.{eq-eqb, ne_eqb, lt-ltb, le-ltb}
-use Rattle.label.specs.Bytes.{GS}
-use Rattle.label.proofs.Tests.{cond_yes, cond_no}
-use Rattle.envelope.specs.Formats.{after_value, compression_found}
-use Rattle.envelope.proofs.ValueLaws.{begins_long}
+use Rattle.std.specs.Prelude.{◌+◌}
+use mathlib.Core.Path.{sym, ◌∙◌}
+use borrow.Author.Tests.{eq-eqb}
+use Rattle.label.specs.Bytes.{plain}
+use Rattle.label.specs.Values.{type_length}
+use Rattle.label.proofs.Tests.{cond_yes}
+use Rattle.envelope.specs.Headers.{value_end}
+use Rattle.envelope.specs.Formats.{compression_found}
+use Rattle.envelope.proofs.ValueLaws.{found_after}
 use Rattle.envelope.proofs.format.judge_counted.Goals as goal
 
-pub returns-then-agree-ne1 : goal.returns-then-agree-ne1
-returns-then-agree-ne1 c = sym (cond_no _ _ _ (ne_eqb _ 1 (λ is. c.if-agree-ne1.true (c.agree.ensures ∙ is))))
-
-pub value_end-end-requires : goal.value_end-end-requires
-value_end-end-requires c = let long = begins_long (GS ∷ []) c.args.m.now c.args.at c.requires (sym c.agree.ensures ∙ c.if-agree-ne1.false) in
-    omega arith
-
-pub returns-then-m-end : goal.returns-then-m-end
-returns-then-m-end c = sym (cond_yes _ _ _ (eq-eqb _ 1 (sym c.agree.ensures ∙ c.if-agree-ne1.false))
-    ∙ ap (λ end. after_value c.args.m.now end (compression_found c.args.m.now)) (sym c.value_end-end.ensures)
-    ∙ cond_no _ _ _ (le-ltb c.value_end-end.result (length c.args.m.now) c.if-m-end.true))
-
 pub returns : goal.returns
-returns c = c.judge_compression.ensures
+returns c = let m = c.args.m.now in
+    c.judge_compression.ensures
     ∙ sym (cond_yes _ _ _ (eq-eqb _ 1 (sym c.agree.ensures ∙ c.if-agree-ne1.false))
-    ∙ ap (λ end. after_value c.args.m.now end (compression_found c.args.m.now)) (sym c.value_end-end.ensures)
-    ∙ cond_yes _ _ _ (lt-ltb c.value_end-end.result (length c.args.m.now) c.if-m-end.false))
+    ∙ found_after m (value_end type_length.0 type_length.1 plain m (c.args.at + 1)) c.in_ok-end.end (compression_found m) c.in_ok-end.ensures)

@@ -1,5 +1,6 @@
 -- `judge_elements` is `elements_found`.
-use mathlib.Core.Path.{sym, ◌∙◌}
+use Rattle.std.specs.Prelude.{Err}
+use mathlib.Core.Path.{sym, ◌∙◌, ap}
 use native.Mathlib.Omega.{arith}
 use mathlib.Core.List.{[], ◌∷◌}
 use Rattle.label.specs.Bytes.{GS}
@@ -10,7 +11,7 @@ use borrow.Author.Rules.{rules}
 use Rattle.envelope.proofs.format.judge_elements.Goals as goal
 
 pub returns-then-agree-ne1 : goal.returns-then-agree-ne1
-returns-then-agree-ne1 c = sym (cond_no _ _ _ (ne_eqb _ 1 (λ is. c.if-agree-ne1.true (c.agree.ensures ∙ is))))
+returns-then-agree-ne1 c = ap Err c.into.ensures ∙ (sym (cond_no _ _ _ (ne_eqb _ 1 (λ is. c.if-agree-ne1.true (c.agree.ensures ∙ is)))))
 
 pub judge_body-requires : goal.judge_body-requires
 judge_body-requires c = let long = begins_long (GS ∷ []) c.args.m.now c.args.at c.requires (sym c.agree.ensures ∙ c.if-agree-ne1.false) in

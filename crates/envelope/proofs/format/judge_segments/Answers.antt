@@ -1,4 +1,5 @@
 -- `judge_segments` is `segments_found`: six bytes of the class, then FS GS US.
+use Rattle.std.specs.Prelude.{Err}
 use mathlib.Core.Path.{◌≡◌, sym, ap, ◌∙◌}
 use native.Mathlib.Omega.{arith}
 use mathlib.Core.List.{[], ◌∷◌}
@@ -12,15 +13,15 @@ use borrow.Author.Rules.{rules}
 use Rattle.envelope.proofs.format.judge_segments.Goals as goal
 
 pub returns-then-m-at-lt-RELEASE_LENGTH : goal.returns-then-m-at-lt-RELEASE_LENGTH
-returns-then-m-at-lt-RELEASE_LENGTH c = segments_short c.args.k c.args.m.now c.args.at c.requires c.if-m-at-lt-RELEASE_LENGTH.true
+returns-then-m-at-lt-RELEASE_LENGTH c = ap Err c.into.ensures ∙ (segments_short c.args.k c.args.m.now c.args.at c.requires c.if-m-at-lt-RELEASE_LENGTH.true)
 
 pub returns-then-not-all_in : goal.returns-then-not-all_in
 returns-then-not-all_in c = let six : c.args.at + 6 - c.args.at ≡ 6 = omega arith in
     let class = c.all_in.ensures ∙ ap (λ n. every capital_or_digit (take n (drop c.args.at c.args.m.now))) six in
-    segments_class c.args.k c.args.m.now c.args.at c.requires (sym class ∙ c.if-not-all_in.true)
+    ap Err c.into-then-not-all_in.ensures ∙ (segments_class c.args.k c.args.m.now c.args.at c.requires (sym class ∙ c.if-not-all_in.true))
 
 pub returns-then-agree-ne3 : goal.returns-then-agree-ne3
-returns-then-agree-ne3 c = segments_marks c.args.k c.args.m.now c.args.at c.requires (λ is. c.if-agree-ne3.true (c.agree.ensures ∙ is))
+returns-then-agree-ne3 c = ap Err c.into-then-agree-ne3.ensures ∙ (segments_marks c.args.k c.args.m.now c.args.at c.requires (λ is. c.if-agree-ne3.true (c.agree.ensures ∙ is)))
 
 pub judge_body-requires : goal.judge_body-requires
 judge_body-requires c = let long = c.if-m-at-lt-RELEASE_LENGTH.false in

@@ -1,5 +1,6 @@
 -- `judge_transport` is `transport_found`: one version, then the other.
-use mathlib.Core.Path.{sym, ◌∙◌}
+use Rattle.std.specs.Prelude.{Err}
+use mathlib.Core.Path.{sym, ◌∙◌, ap}
 use native.Mathlib.Omega.{arith}
 use mathlib.Core.List.{◌∷◌}
 use Rattle.label.specs.Bytes.{ascii, GS}
@@ -25,4 +26,4 @@ returns-then-agree-eq3-2 c = c.judge_body-then-agree-eq3-2.ensures
     ∙ sym (cond_no _ _ _ (ne_eqb _ 3 (λ is. c.if-agree-eq3.false (c.agree.ensures ∙ is))) ∙ cond_yes _ _ _ (eq-eqb _ 3 (sym c.agree-2.ensures ∙ c.if-agree-eq3-2.true)))
 
 pub returns : goal.returns
-returns c = sym (cond_no _ _ _ (ne_eqb _ 3 (λ is. c.if-agree-eq3.false (c.agree.ensures ∙ is))) ∙ cond_no _ _ _ (ne_eqb _ 3 (λ is. c.if-agree-eq3-2.false (c.agree-2.ensures ∙ is))))
+returns c = ap Err c.into.ensures ∙ (sym (cond_no _ _ _ (ne_eqb _ 3 (λ is. c.if-agree-eq3.false (c.agree.ensures ∙ is))) ∙ cond_no _ _ _ (ne_eqb _ 3 (λ is. c.if-agree-eq3-2.false (c.agree-2.ensures ∙ is)))))

@@ -8,8 +8,8 @@ use Rattle.judge.specs.Shown.{tallied}
 use Rattle.judge.specs.Turns.{result_of, Sound}
 use Rattle.judge.proofs.envelopes.walk_envelopes.Given as goal
 
-abbrev pub invariant-loop-r : goal.invariant-loop-r
-invariant-loop-r l = Sound l.m l.s × (result_of l.edition l.m l.s ≡ tallied 0 0 (unbounded_walk l.edition l.m true (drop 4 l.m)))
+abbrev pub invariant-loop-counts : goal.invariant-loop-counts
+invariant-loop-counts l = Sound l.m l.s × (result_of l.edition l.m l.s ≡ tallied 0 0 (unbounded_walk l.edition l.m true (drop 4 l.m)))
 
-abbrev pub decreases-loop-r : goal.decreases-loop-r
-decreases-loop-r l = length l.m - l.s.at
+abbrev pub decreases-loop-counts : goal.decreases-loop-counts
+decreases-loop-counts l = length l.m - l.s.at

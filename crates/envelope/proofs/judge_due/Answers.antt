@@ -1,0 +1,30 @@
+-- `judge_due` shows what reading an envelope does: no indicator, or its format.
+use Rattle.std.specs.Prelude.{Err}
+use mathlib.Core.Path.{sym, ap, ◌∙◌}
+use native.Mathlib.Omega.{arith}
+use lib.ListN.{drop, length-drop}
+use lib.Seq.{drop-drop}
+use Rattle.label.specs.Formats.{rule_of}
+use Rattle.label.specs.ReadEnvelope.{read_by}
+use Rattle.envelope.specs.Headers.{no_indicator, indicator_of}
+use Rattle.envelope.specs.Shown.{shown}
+use Rattle.envelope.proofs.HeaderLaws.{not_below, is_below, indicator_limit, indicator_long, read_none, read_some}
+use Rattle.envelope.proofs.judge_due.Goals as goal
+
+pub returns-in_default : goal.returns-in_default
+returns-in_default c = let bs = drop c.args.at c.args.m.now in
+    let none = not_below no_indicator (indicator_of bs) c.in_default.ensures in
+    let limit = indicator_limit bs in
+    ap Err c.into.ensures ∙ sym (ap (shown c.args.m.now) (read_none c.args.edition c.args.first bs (omega arith)))
+
+pub judge_format-requires : goal.judge_format-requires
+judge_format-requires c = let bs = drop c.args.at c.args.m.now in
+    let there = is_below no_indicator (indicator_of bs) c.in-Some.f c.in-Some.ensures in
+    omega (arith, indicator_long bs there.1, length-drop c.args.at c.args.m.now)
+
+pub returns : goal.returns
+returns c = let bs = drop c.args.at c.args.m.now in
+    let f = c.in-Some.f in
+    let there = is_below no_indicator (indicator_of bs) f c.in-Some.ensures in
+    c.judge_format.ensures
+    ∙ sym (ap (shown c.args.m.now) (read_some c.args.edition c.args.first f bs there.0 (omega (arith, there.0, there.1)) ∙ ap (read_by (rule_of c.args.edition f) c.args.first f) (drop-drop 2 c.args.at c.args.m.now)))
