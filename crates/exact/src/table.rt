@@ -10,19 +10,13 @@ pub fn read_exactly(edition: Edition, message: &[u8], table: &mut [u32]) -> Read
     ensures answer { answer_of result ≡ read_answer edition message.now (room_of table.old) }
     ensures rows { table.new ≡ table_after edition message.now table.old }
 {
-    let judged = judge::judge(edition, message);
-    match judged {
-        Ok(counts) => {
-            let rows = counts.rows;
-            if table.len() / ROW < rows {
-                return Err(Refusal {
-                    reason: Reason::NoRoom,
-                    place: 0,
-                });
-            }
-            fill(message, rows, table);
-            Ok(counts)
-        }
-        Err(refusal) => Err(refusal),
+    let counts = judge::judge(edition, message)?;
+    if table.len() / ROW < counts.rows {
+        return Err(Refusal {
+            reason: Reason::NoRoom,
+            place: 0,
+        });
     }
+    fill(message, counts.rows, table);
+    Ok(counts)
 }

@@ -5,7 +5,7 @@
 ghost use Rattle.std.specs.Prelude.{◌≡◌, ◌++◌, map, ◌+◌, ◌≤◌, take, drop};
 ghost use Rattle.label.specs.Limits.{most_rows, row_width};
 ghost use Rattle.label.specs.Layout.{Row, numbers, all_numbers};
-ghost use Rattle.label.specs.Answer.{answer_of, refusal, room_of, overlaid};
+ghost use Rattle.label.specs.Answer.{answer_of, room_of, overlaid};
 ghost use Rattle.label.specs.Counting.{row_from, kinds_of, raised, by_counting};
 ghost use Rattle.noted.specs.Noted.{rows_noted, answer_from, table_from, Copies, OneCopied, stretch_from};
 
@@ -75,13 +75,6 @@ fn copy_several(notes: &[u16], rows: usize, table: &mut [u32])
     }
 }
 
-// Lack of room, or too many rows.
-fn refused_for(reason: Reason) -> Reading
-    ensures { answer_of result ≡ refusal reason 0 }
-{
-    Err(Refusal { reason, place: 0 })
-}
-
 // Hands the rows noted, of a message with so many envelopes, over to a table of any length, whose room is its length divided by the numbers of
 // a row: accepted, and the table's first numbers are the rows', each with its envelope's ordinal; or refused for lack of room, or for too many
 // rows to be counted, and the table stays as it was. Most labels have one envelope, whose rows need no counting.
@@ -91,14 +84,20 @@ pub fn hand_over(envelopes: usize, notes: &[u16], table: &mut [u32]) -> Reading
 {
     let rows = notes.len() / NOTE;
     if table.len() < ROW * rows {
-        return refused_for(Reason::NoRoom);
+        return Err(Refusal {
+            reason: Reason::NoRoom,
+            place: 0,
+        });
     }
     if envelopes < 2 {
         copy_alone(notes, rows, table);
         return Ok(Counts { envelopes, rows });
     }
     if MOST_ROWS < rows {
-        return refused_for(Reason::TooManyRows);
+        return Err(Refusal {
+            reason: Reason::TooManyRows,
+            place: 0,
+        });
     }
     copy_several(notes, rows, table);
     Ok(Counts { envelopes, rows })

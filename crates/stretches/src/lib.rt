@@ -14,11 +14,7 @@ use walk::Cursor;
 pub fn rows_of(edition: Edition, m: &[u8]) -> usize
     ensures { result ≡ length (rows_read (reading edition m.now)) }
 {
-    let judged = judge::judge(edition, m);
-    match judged {
-        Ok(counts) => counts.rows,
-        Err(refusal) => 0,
-    }
+    judge::judge(edition, m).map_or(0, |counts| counts.rows)
 }
 
 // The walk to a row that the message has.

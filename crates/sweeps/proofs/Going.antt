@@ -14,9 +14,9 @@ use Rattle.label.specs.Limits.{most_rows}
 use Rattle.label.specs.ReadMessage.{reading, unbounded_walk}
 use Rattle.label.proofs.Tests.{cond_no}
 use Rattle.judge.specs.declared.State.{State}
-use Rattle.judge.specs.declared.Turn.TheVariants.{Go}
 use Rattle.judge.specs.Shown.{judged_as, tallied, limited}
-use Rattle.judge.specs.Turns.{result_of, Sound, TurnSo, boundary_turn}
+use Rattle.envelope.specs.Shown.{placed}
+use Rattle.judge.specs.Turns.{go, result_of, Sound, TurnSo, boundary_turn}
 use Rattle.judge.proofs.WalkLaws.{boundary_next, boundary_last, turn_closed, closed_so}
 use Rattle.judge.proofs.JudgeLaws.{judge_walk}
 use Rattle.sweeps.specs.declared.Passed.{Passed}
@@ -63,10 +63,10 @@ module _ (edition : Edition) (m : Bytes) (from : ℕ) (notes : List ℕ) (at env
 
   turned : TurnSo edition m here (boundary_turn m p.next (envelopes + 1) p.rows)
   turned = subst (λ (n : ℕ). TurnSo edition m here (boundary_turn m p.next (envelopes + 1) n)) sum
-      (closed_so edition m here going.sound p.next (p.rows - rows) (turn_closed edition m here going.sound p.next (p.rows - rows) (swept.closes going.first going.only)))
+      (closed_so edition m here going.sound p.next (p.rows - rows) (turn_closed edition m here going.sound p.next (p.rows - rows) (ap (placed here.at) (swept.closes going.first going.only))))
 
   -- another envelope
-  gone_on : (get_or m p.next 0 ≡ EOT → ⊥) → TurnSo edition m here (Go (state_of p.next false (envelopes + 1) p.rows))
+  gone_on : (get_or m p.next 0 ≡ EOT → ⊥) → TurnSo edition m here (go (state_of p.next false (envelopes + 1) p.rows))
   gone_on other = subst (TurnSo edition m here) (sym (boundary_next m p.next (envelopes + 1) p.rows swept.inside (ne_eqb (get_or m p.next 0) EOT other))) turned
 
   pub further_on : (get_or m p.next 0 ≡ EOT → ⊥) → at < p.next

@@ -1,7 +1,5 @@
 -- `fault_in` is `fault_of`, an arm for each kind.
-use mathlib.Core.Path.{refl, ◌∙◌}
-use Rattle.label.specs.Faults.{element_fault, elements_fault}
-use Rattle.pieces.specs.declared.Kind.TheVariants.{Elements05, Elements06, Elements12}
+use mathlib.Core.Path.{◌∙◌}
 use Rattle.faults.proofs.FaultLaws.{in_fields_02, in_fields_96, in_any_elements}
 use Rattle.faults.proofs.fault_in.Goals as goal
 

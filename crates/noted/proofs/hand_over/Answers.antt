@@ -17,7 +17,7 @@ pub returns-then-table-rows : goal.returns-then-table-rows
 returns-then-table-rows c = let args = c.args in
     let n = length (rows_noted args.notes.now) in
     let short = lt-ltb (room_of args.table.now) n (omega (arith, noted_long args.notes.now, c.if-table-rows.true)) in
-    record { answer = c.refused_for.ensures ∙ sym (cond_yes _ _ _ short); rows = sym (cond_yes _ _ _ short) }
+    record { answer = sym (cond_yes _ _ _ short); rows = sym (cond_yes _ _ _ short) }
 
 pub returns-then-envelopes-lt2 : goal.returns-then-envelopes-lt2
 returns-then-envelopes-lt2 c = let args = c.args in
@@ -32,7 +32,7 @@ returns-then-rows-gt-MOST_ROWS c = let args = c.args in
     let enough = le-ltb (room_of args.table.now) (length rs) (omega (arith, noted_long args.notes.now, c.if-table-rows.false)) in
     let several = lt-ltb 1 args.envelopes (omega (arith, c.if-envelopes-lt2.false)) in
     let many : too_many args.envelopes rs ≡ true = and_both several (lt-ltb most_rows (length rs) (omega (arith, noted_long args.notes.now, c.if-rows-gt-MOST_ROWS.true))) in
-    record { answer = c.refused_for-then-rows-gt-MOST_ROWS.ensures ∙ sym (cond_no _ _ _ enough ∙ cond_yes _ _ _ many); rows = sym (cond_no _ _ _ enough ∙ cond_yes _ _ _ many) }
+    record { answer = sym (cond_no _ _ _ enough ∙ cond_yes _ _ _ many); rows = sym (cond_no _ _ _ enough ∙ cond_yes _ _ _ many) }
 
 pub returns : goal.returns
 returns c = let args = c.args in
