@@ -8,15 +8,14 @@ ghost use Rattle.label.specs.Answer.{numbers_read};
 ghost use Rattle.label.specs.Writing.{write_answer_of, write_answer, output_after};
 ghost use Rattle.round.specs.Round.{HoldsRead, GoesRound};
 
-use label::{Edition, ROW, Reading, TABLE, Writing};
+use label::{Edition, ROW, TABLE, Writing};
 
 // Reads a message into a table with room for any, and answers how many numbers the rows read are.
 fn numbers_into(edition: Edition, message: &[u8], table: &mut [u32]) -> usize
     requires { row_width * most_rows ≤ length table.old }
     ensures { HoldsRead edition message.now result table.new }
 {
-    let reading = reader::read(edition, message, table);
-    match reading {
+    match reader::read(edition, message, table) {
         Ok(counts) => ROW * counts.rows,
         Err(_) => 0,
     }

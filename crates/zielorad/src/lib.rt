@@ -7,7 +7,7 @@ ghost use Rattle.label.specs.Answer.{table_after};
 ghost use Rattle.label.specs.Writing.{output_after};
 ghost use Rattle.zielorad.specs.Crossing.{edition_in, reading_for, written_for, part_for};
 
-use label::{Edition, Reading, Writing};
+use label::Edition;
 
 // What reading answers: number 0 is acceptance, with the counts; any other a refusal, with its place.
 #[repr(C)]
@@ -55,23 +55,19 @@ pub extern "C" fn zielorad_read(edition: u32, message: &[u8], table: &mut [u32])
     ensures answer { result ≡ reading_for edition message.now table.old }
     ensures rows { table.new ≡ table_after (edition_in edition) message.now table.old }
 {
-    let reading = reader::read(edition_in(edition), message, table);
-    match reading {
+    match reader::read(edition_in(edition), message, table) {
         Ok(counts) => ZieloradReading {
             number: 0,
             place: 0,
             envelopes: counts.envelopes as u32,
             rows: counts.rows as u32,
         },
-        Err(refusal) => {
-            let reason = refusal.reason;
-            ZieloradReading {
-                number: numbers::number_of(reason),
-                place: refusal.place as u32,
-                envelopes: 0,
-                rows: 0,
-            }
-        }
+        Err(refusal) => ZieloradReading {
+            number: numbers::number_of(refusal.reason),
+            place: refusal.place as u32,
+            envelopes: 0,
+            rows: 0,
+        },
     }
 }
 
@@ -86,8 +82,7 @@ pub extern "C" fn zielorad_write(
     ensures answer { result ≡ written_for edition held.now rows.now output.old }
     ensures bytes { output.new ≡ output_after (edition_in edition) held.now rows.now output.old }
 {
-    let writing = writer::write(edition_in(edition), held, rows, output);
-    match writing {
+    match writer::write(edition_in(edition), held, rows, output) {
         Ok(count) => ZieloradWritten {
             number: 0,
             count: count as u32,
