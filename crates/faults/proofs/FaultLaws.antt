@@ -2,7 +2,6 @@
 use Rattle.std.specs.Prelude.{None, Option, Some}
 use Prim.Native.Nat.{ℕ, zero, suc, ◌+◌, ◌≤◌, ◌<◌}
 use mathlib.Core.Path.{◌≡◌, refl, sym, ap, ◌∙◌}
-use mathlib.Core.Logic.{◌⊎◌, inl, inr}
 use mathlib.Core.Bool.{Bool, true, false, not, ◌&&◌, ◌||◌, cond}
 use mathlib.Core.List.{List, [], ◌∷◌}
 use native.Mathlib.Omega.{arith}
@@ -111,15 +110,8 @@ pub in_fields_96 : (k : Kind) → k ≡ Fields96 → (body : Bytes) → fields_f
 in_fields_96 k is body =
     ap (λ x. fields_fault_of (piece_fault x) (most_fields Version96) body) is ∙ fields_fault_by_lem Version96 (piece_fault Fields96) (field_fault_by Version96) body ∙ ap (λ x. fault_of x body) (sym is)
 
-in_elements : (k k' : Kind) → k ≡ k' → (body : Bytes) → first_fault (piece_fault k') 0 0 (pieces GS body) ≡ fault_of k' body → first_fault (piece_fault k) 0 0 (pieces GS body) ≡ fault_of k body
+pub in_elements : (k k' : Kind) → k ≡ k' → (body : Bytes) → first_fault (piece_fault k') 0 0 (pieces GS body) ≡ fault_of k' body → first_fault (piece_fault k) 0 0 (pieces GS body) ≡ fault_of k body
 in_elements k k' is body law = ap (λ x. first_fault (piece_fault x) 0 0 (pieces GS body)) is ∙ law ∙ ap (λ x. fault_of x body) (sym is)
-
--- the formats of elements
-pub in_any_elements : (k : Kind) → (k ≡ Elements05) ⊎ ((k ≡ Elements06) ⊎ (k ≡ Elements12)) → (body : Bytes) → first_fault (piece_fault k) 0 0 (pieces GS body) ≡ fault_of k body
-unfolding elements_fault element_fault
-in_any_elements k (inl is) body = in_elements k Elements05 is body refl
-in_any_elements k (inr (inl is)) body = in_elements k Elements06 is body refl
-in_any_elements k (inr (inr is)) body = in_elements k Elements12 is body refl
 
 -- The search for the first
 

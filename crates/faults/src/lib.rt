@@ -90,7 +90,10 @@ pub fn fault_in(k: Kind, body: &[u8]) -> Option<Refusal>
     match k {
         Kind::Fields02 => fields_fault(k, MOST_FIELDS_02, body),
         Kind::Fields96 => fields_fault(k, MOST_FIELDS_96, body),
-        Kind::Elements05 | Kind::Elements06 | Kind::Elements12 => first_fault(k, body),
+        // An arm each: so the search is compiled for each kind. In one arm benchmark case e takes 1.39 times the reference, and its bar is 1.3.
+        Kind::Elements05 => first_fault(k, body),
+        Kind::Elements06 => first_fault(k, body),
+        Kind::Elements12 => first_fault(k, body),
         Kind::Segments03 | Kind::Segments04 | Kind::Text => None,
     }
 }
