@@ -77,6 +77,7 @@ pub fn print_row<W: Write>(out: &mut W, table: &[u32], row: usize) -> io::Result
 }
 
 // Reads until the buffer is full or the input ends, and answers how many bytes were read: they stand at the buffer's front.
+// std's Read has no method for it: read_exact fails where the input ends, read_to_end allocates, bytes reads them one by one.
 pub fn read_full<R: Read>(input: &mut R, buffer: &mut [u8]) -> io::Result<usize>
     ensures count { IfOk result (λ n. n ≤ length buffer.new) }
     ensures bytes { IfOk result (λ n. Consumes (R.remaining input.old) (R.remaining input.new) (take n buffer.new)) }
@@ -95,7 +96,7 @@ pub fn read_full<R: Read>(input: &mut R, buffer: &mut [u8]) -> io::Result<usize>
 }
 
 // Puts a byte into a line at an index and answers the index behind it. A line that has no such index stays as it is, and the
-// answer is its length.
+// answer is its length. It is public and keeps its form: docs/promises names it.
 pub fn put(b: u8, line: &mut [u8], at: usize) -> usize
     ensures value { result ≡ min (at + 1) (length line.old) }
     ensures prefix_len { result ≤ length line.new }

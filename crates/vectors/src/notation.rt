@@ -70,7 +70,8 @@ fn counted(text: &[u8]) -> (usize, &[u8])
     }
 }
 
-// A control byte by the first letter of its name.
+// A control byte by the first letter of its name. The way back, shown::name, is a match of its own: one list for both would be searched by
+// hand twice, and this one takes any letter.
 fn control(first: u8) -> u8 {
     match first {
         b'E' => leaves::EOT,
