@@ -2,33 +2,15 @@
 // (02, No. 3). One byte more than a message may have is enough to see that it is too long.
 #![tactic(auto)]
 
-ghost use Rattle.std.specs.Prelude.{◌≤◌, length, IfOk};
-
 use label::{Edition, LONGEST, TABLE};
 use std::io;
-use std::io::Read;
 
 const TOO_LONG: usize = LONGEST + 1;
 
 fn main(rt: HostRuntime) -> io::Result<()> {
     let mut message = [0u8; TOO_LONG];
-    let length = read_full(&mut rt.stdin(), &mut message)?;
+    let length = report::read_full(&mut rt.stdin(), &mut message)?;
     let mut table = [0u32; TABLE];
     let reading = reader::read(Edition::Edition2005, &message[..length], &mut table);
     report::print_reading(&mut rt.stdout(), reading, &table)
-}
-
-// Reads until the buffer is full or the input ends, and answers how many bytes were read.
-fn read_full<R: Read>(input: &mut R, buffer: &mut [u8]) -> io::Result<usize>
-    ensures { IfOk result (λ n. n ≤ length buffer.new) }
-{
-    let mut filled = 0;
-    while filled < buffer.len() {
-        let count = input.read(&mut buffer[filled..])?;
-        if count == 0 {
-            return Ok(filled);
-        }
-        filled += count;
-    }
-    Ok(filled)
 }

@@ -1,27 +1,27 @@
-// A reading printed as document 01 has it under 'Cartons to try', and what the writer answers.
+// What the programs share: bytes read into a buffer, a reading printed as document 01 has it under 'Cartons to try', and what the writer
+// answers.
 #![tactic(auto)]
 
-ghost use Rattle.std.specs.Prelude.{◌≡◌, ◌+◌, ◌≤◌, [], ◌∷◌, ◌++◌, min, length, set, take, OnOk};
-ghost use Rattle.std.specs.Io.KnownBytes.{Appends};
+ghost use Rattle.std.specs.Prelude.{◌≡◌, ◌+◌, ◌<◌, ◌≤◌, min, length, set, take, IfOk, OnOk};
+ghost use Rattle.std.specs.Io.KnownBytes.{Appends, Consumes, IsAtEnd};
 ghost use Rattle.label.specs.Answer.{answer_of};
 ghost use Rattle.label.specs.Writing.{write_answer_of};
-ghost use Rattle.report.specs.Lines.{ended, line_of, row_line, row_lines, reading_lines};
+ghost use Rattle.report.specs.Lines.{line_of, row_line, row_lines, reading_lines};
 
-use itoa::Buffer;
 use label::{ROW, Reading, Writing};
 use std::io;
-use std::io::Write;
+use std::io::{Read, Write};
 
-// Room for a line of a row's numbers: each takes at most 20 digits and the byte behind it.
-const LINE: usize = 21 * ROW;
+// The number that stands before what an accepted message has, and before the count of bytes written.
+const ACCEPTED: u8 = 0;
 
 // Prints the line of what the writer answers: 0 and the byte count, or the reason's number.
 pub fn print_writing<W: Write>(out: &mut W, writing: Writing) -> io::Result<()>
     ensures { OnOk result (Appends (W.contents out.old) (W.contents out.new) (line_of (write_answer_of writing))) }
 {
     match writing {
-        Ok(count) => print_two(out, 0, count as u64),
-        Err(reason) => print_one(out, numbers::write_number_of(reason) as u64),
+        Ok(count) => writeln!(out, "{ACCEPTED} {count}"),
+        Err(reason) => writeln!(out, "{}", numbers::write_number_of(reason)),
     }
 }
 
@@ -41,15 +41,14 @@ pub fn print_answer<W: Write>(out: &mut W, reading: Reading) -> io::Result<()>
     ensures { OnOk result (Appends (W.contents out.old) (W.contents out.new) (line_of (answer_of reading))) }
 {
     match reading {
-        Ok(counts) => print_three(
+        Ok(counts) => writeln!(
             out,
-            0,
-            counts.envelopes as u64,
-            counts.rows as u64,
+            "{ACCEPTED} {} {}",
+            counts.envelopes, counts.rows
         ),
         Err(refusal) => {
-            let reason = refusal.reason;
-            print_two(out, numbers::number_of(reason) as u64, refusal.place as u64)
+            let number = numbers::number_of(refusal.reason);
+            writeln!(out, "{number} {}", refusal.place)
         }
     }
 }
@@ -70,88 +69,34 @@ pub fn print_row<W: Write>(out: &mut W, table: &[u32], row: usize) -> io::Result
 {
     if row < table.len() / ROW {
         let at = row * ROW;
-        print_five(
-            out,
-            wide(table[at]),
-            wide(table[at + 1]),
-            wide(table[at + 2]),
-            wide(table[at + 3]),
-            wide(table[at + 4]),
-        )?;
+        if let [kind, format, start, length, ordinal] = &table[at..at + ROW] {
+            writeln!(out, "{kind} {format} {start} {length} {ordinal}")?;
+        }
     }
     Ok(())
 }
 
-fn print_one<W: Write>(out: &mut W, x: u64) -> io::Result<()>
-    ensures { OnOk result (Appends (W.contents out.old) (W.contents out.new) (line_of (x ∷ []))) }
+// Reads until the buffer is full or the input ends, and answers how many bytes were read: they stand at the buffer's front.
+// std's Read has no method for it: read_exact fails where the input ends, read_to_end allocates, bytes reads them one by one.
+pub fn read_full<R: Read>(input: &mut R, buffer: &mut [u8]) -> io::Result<usize>
+    ensures count { IfOk result (λ n. n ≤ length buffer.new) }
+    ensures bytes { IfOk result (λ n. Consumes (R.remaining input.old) (R.remaining input.new) (take n buffer.new)) }
+    ensures end { IfOk result (λ n. n < length buffer.new → IsAtEnd (R.remaining input.new)) }
+    ensures kept { length buffer.new ≡ length buffer.old }
 {
-    let mut line = [0u8; LINE];
-    let a = put_number(x, b'\n', &mut line, 0);
-    out.write_all(&line[..a])
-}
-
-fn print_two<W: Write>(out: &mut W, x: u64, y: u64) -> io::Result<()>
-    ensures { OnOk result (Appends (W.contents out.old) (W.contents out.new) (line_of (x ∷ y ∷ []))) }
-{
-    let mut line = [0u8; LINE];
-    let a = put_number(x, b' ', &mut line, 0);
-    let b = put_number(y, b'\n', &mut line, a);
-    out.write_all(&line[..b])
-}
-
-fn print_three<W: Write>(out: &mut W, x: u64, y: u64, z: u64) -> io::Result<()>
-    ensures { OnOk result (Appends (W.contents out.old) (W.contents out.new) (line_of (x ∷ y ∷ z ∷ []))) }
-{
-    let mut line = [0u8; LINE];
-    let a = put_number(x, b' ', &mut line, 0);
-    let b = put_number(y, b' ', &mut line, a);
-    let c = put_number(z, b'\n', &mut line, b);
-    out.write_all(&line[..c])
-}
-
-fn print_five<W: Write>(out: &mut W, v: u64, w: u64, x: u64, y: u64, z: u64) -> io::Result<()>
-    ensures { OnOk result (Appends (W.contents out.old) (W.contents out.new) (line_of (v ∷ w ∷ x ∷ y ∷ z ∷ []))) }
-{
-    let mut line = [0u8; LINE];
-    let a = put_number(v, b' ', &mut line, 0);
-    let b = put_number(w, b' ', &mut line, a);
-    let c = put_number(x, b' ', &mut line, b);
-    let d = put_number(y, b' ', &mut line, c);
-    let e = put_number(z, b'\n', &mut line, d);
-    out.write_all(&line[..e])
-}
-
-fn wide(x: u32) -> u64
-    ensures { result ≡ x }
-{
-    x as u64
-}
-
-// Puts a number in decimal and a byte behind it into a line, from an index on, and answers the index behind both.
-fn put_number(n: u64, end: u8, line: &mut [u8], from: usize) -> usize
-    ensures prefix_len { result ≤ length line.new }
-    ensures index { from + 21 ≤ length line.old → result ≤ from + 21 }
-    ensures text { from + 21 ≤ length line.old → take result line.new ≡ take from line.old ++ ended n end }
-{
-    let mut digits = Buffer::new();
-    let at = put_all(digits.format(n).as_bytes(), line, from);
-    put(end, line, at)
-}
-
-// Puts bytes into a line, from an index on, and answers the index behind the last.
-fn put_all(bytes: &[u8], line: &mut [u8], from: usize) -> usize
-    ensures index { from + length bytes.now ≤ length line.old → result ≡ from + length bytes.now }
-    ensures text { from + length bytes.now ≤ length line.old → take result line.new ≡ take from line.old ++ bytes.now }
-{
-    let mut at = from;
-    for b in bytes {
-        at = put(*b, line, at);
+    let mut filled = 0;
+    while filled < buffer.len() {
+        let count = input.read(&mut buffer[filled..])?;
+        if count == 0 {
+            return Ok(filled);
+        }
+        filled += count;
     }
-    at
+    Ok(filled)
 }
 
 // Puts a byte into a line at an index and answers the index behind it. A line that has no such index stays as it is, and the
-// answer is its length.
+// answer is its length. It is public and keeps its form: docs/promises names it.
 pub fn put(b: u8, line: &mut [u8], at: usize) -> usize
     ensures value { result ≡ min (at + 1) (length line.old) }
     ensures prefix_len { result ≤ length line.new }

@@ -1,17 +1,14 @@
 // How the vectors write a message: a byte stands for itself; `{GS}` is a control byte by its name, `{30*A}` a byte 30 times, and
 // `{30*GS}` a control byte 30 times.
-ghost use Rattle.std.specs.Prelude.{◌≤◌, length};
+ghost use Rattle.std.specs.Prelude.{◌<◌, ◌≤◌, length, IfSome};
 
-// What has been read of the braces that are open, if any are: a count so far; a count; a count and a byte; a count and a
-// control byte's first letter.
-#[derive(Clone, Copy)]
-enum Pen {
-    Outside,
-    Opened(usize),
-    Counted(usize),
-    Byte(usize, u8),
-    Name(usize, u8),
-}
+use crate::{decimals, split};
+use arrayvec::ArrayVec;
+
+// Room for more bytes than a message may have.
+pub(crate) const ROOM: usize = 4200;
+
+pub(crate) type Message = ArrayVec<u8, ROOM>;
 
 // A byte, and how many times it is to be written.
 #[derive(Clone, Copy)]
@@ -20,105 +17,61 @@ struct Run {
     byte: u8,
 }
 
-// Puts the message that a text writes into a buffer, as far as it has room, and answers the message's length.
-pub(crate) fn expand(text: &[u8], message: &mut [u8]) -> usize
-    ensures { result ≤ length message.new }
+// The message that a text writes, as far as there is room. Braces that nothing closes write nothing, nor does what stands behind them.
+pub(crate) fn expand(text: &[u8]) -> Message {
+    let mut message = Message::new();
+    let mut rest = text;
+    while let Some((run, behind)) = first_run(rest) {
+        put_run(run, &mut message);
+        rest = behind;
+    }
+    message
+}
+
+// What a text's front writes, and what stands behind it: outside of braces a byte itself, else what stands in them.
+fn first_run(text: &[u8]) -> Option<(Run, &[u8])>
+    ensures { IfSome result (λ parts. length parts.1.now < length text.now) }
 {
-    let mut length = 0;
-    let mut pen = Pen::Outside;
-    for b in text {
-        let run = run_at(pen, *b);
-        length = put_run(run, message, length);
-        pen = next(pen, *b);
+    let (first, behind) = text.split_first()?;
+    if *first == b'{' {
+        return in_braces(behind);
     }
-    within(length, message)
+    let byte = *first;
+    Some((Run { times: 1, byte }, behind))
 }
 
-// What the pen is at after a byte of the text.
-fn next(pen: Pen, b: u8) -> Pen {
-    match pen {
-        Pen::Outside => {
-            if b == b'{' {
-                Pen::Opened(0)
-            } else {
-                Pen::Outside
-            }
-        }
-        Pen::Opened(count) => opened(count, b),
-        Pen::Counted(times) => Pen::Byte(times, b),
-        Pen::Byte(times, byte) => {
-            if b == b'}' {
-                Pen::Outside
-            } else {
-                Pen::Name(times, byte)
-            }
-        }
-        Pen::Name(times, first) => {
-            if b == b'}' {
-                Pen::Outside
-            } else {
-                Pen::Name(times, first)
-            }
-        }
-    }
-}
-
-// A digit lengthens the count, `*` ends it, anything else is what stands in the braces, once.
-fn opened(count: usize, b: u8) -> Pen {
-    if b == b'*' {
-        return Pen::Counted(count);
-    }
-    if (b'0' <= b) & (b <= b'9') {
-        if count < 10000 {
-            return Pen::Opened(count * 10 + digit(b));
-        }
-        return Pen::Opened(count);
-    }
-    Pen::Byte(1, b)
-}
-
-fn digit(b: u8) -> usize
-    ensures { result ≤ 255 }
+// What stands in braces, whose opening one is passed: a byte or a control byte's name, with a count and a `*` in front where it is to be
+// written more than once.
+fn in_braces(text: &[u8]) -> Option<(Run, &[u8])>
+    ensures { IfSome result (λ parts. length parts.1.now < length text.now) }
 {
-    if b < b'0' { 0 } else { (b - b'0') as usize }
+    let (times, named) = counted(text);
+    let (first, more) = named.split_first()?;
+    let (name, behind) = split::once(more, b'}')?;
+    let byte = if name.is_empty() {
+        *first
+    } else {
+        control(*first)
+    };
+    Some((Run { times, byte }, behind))
 }
 
-// What a byte of the text writes: outside of braces itself, at the end of braces what stands in them, else nothing.
-fn run_at(pen: Pen, b: u8) -> Run {
-    match pen {
-        Pen::Outside => {
-            if b == b'{' {
-                Run { times: 0, byte: b }
-            } else {
-                Run { times: 1, byte: b }
-            }
-        }
-        Pen::Opened(_) => Run { times: 0, byte: b },
-        Pen::Counted(_) => Run { times: 0, byte: b },
-        Pen::Byte(times, byte) => {
-            if b == b'}' {
-                Run {
-                    times: times,
-                    byte: byte,
-                }
-            } else {
-                Run { times: 0, byte: b }
-            }
-        }
-        Pen::Name(times, first) => {
-            if b == b'}' {
-                Run {
-                    times: times,
-                    byte: control(first),
-                }
-            } else {
-                Run { times: 0, byte: b }
-            }
-        }
+// The count that a `*` ends, and what stands behind that; where none does it is 1, and digits in front are passed over.
+fn counted(text: &[u8]) -> (usize, &[u8])
+    ensures { length result.1.now ≤ length text.now }
+{
+    let end = text
+        .iter()
+        .position(|b| !b.is_ascii_digit())
+        .unwrap_or(text.len());
+    match text[end..].strip_prefix(b"*") {
+        Some(behind) => (decimals::number(&text[..end]), behind),
+        None => (1, &text[end..]),
     }
 }
 
-// A control byte by the first letter of its name.
+// A control byte by the first letter of its name. The way back, shown::name, is a match of its own: one list for both would be searched by
+// hand twice, and this one takes any letter.
 fn control(first: u8) -> u8 {
     match first {
         b'E' => leaves::EOT,
@@ -130,17 +83,9 @@ fn control(first: u8) -> u8 {
     }
 }
 
-// Writes a run into a buffer from an index on, and answers the index behind it.
-fn put_run(run: Run, message: &mut [u8], from: usize) -> usize {
-    let mut at = from;
-    for _ in 0..run.times {
-        at = report::put(run.byte, message, at);
+// Writes a run into a message, as far as it has room.
+fn put_run(run: Run, message: &mut Message) {
+    for _ in 0..run.times.min(message.remaining_capacity()) {
+        let _ = message.try_push(run.byte);
     }
-    at
-}
-
-pub(crate) fn within(n: usize, message: &[u8]) -> usize
-    ensures { result ≤ length message.now }
-{
-    if n < message.len() { n } else { message.len() }
 }

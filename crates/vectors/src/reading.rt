@@ -9,10 +9,9 @@ const MANY: usize = 100;
 
 // Prints the reading of a message.
 pub(crate) fn run_message<W: Write>(out: &mut W, edition: Edition, text: &[u8]) -> io::Result<()> {
-    let mut message = [0u8; 4200];
-    let length = notation::expand(text, &mut message);
+    let message = notation::expand(text);
     let mut table = [0u32; TABLE];
-    let reading = reader::read(edition, &message[..length], &mut table);
+    let reading = reader::read(edition, &message, &mut table);
     print(out, reading, &table)
 }
 
@@ -34,9 +33,8 @@ fn print<W: Write>(out: &mut W, reading: Reading, table: &[u32]) -> io::Result<(
 
 // Prints the part of a message that a row names.
 pub(crate) fn run_part<W: Write>(out: &mut W, edition: Edition, text: &[u8]) -> io::Result<()> {
-    let row = decimals::number(split::word(text));
-    let mut message = [0u8; 4200];
-    let length = notation::expand(split::rest(text), &mut message);
-    let part = reader::part(edition, &message[..length], row);
+    let (row, text) = split::word(text);
+    let message = notation::expand(text);
+    let part = reader::part(edition, &message, decimals::number(row));
     shown::print_part(out, part)
 }

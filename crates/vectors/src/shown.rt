@@ -1,6 +1,4 @@
 // Bytes printed in the notation of the vectors: ten or more of the same in a row as `{10*A}`.
-ghost use Rattle.std.specs.Prelude.{◌≤◌, ◌<◌, length};
-
 use std::io;
 use std::io::Write;
 
@@ -19,84 +17,54 @@ pub(crate) fn print_part<W: Write>(out: &mut W, bytes: &[u8]) -> io::Result<()> 
 
 // Prints bytes and a line end.
 pub(crate) fn print_bytes<W: Write>(out: &mut W, bytes: &[u8]) -> io::Result<()> {
-    let mut at = 0;
-    while at < bytes.len() {
-        let end = run_end(bytes, at);
-        print_run(out, bytes[at], end - at)?;
-        at = end;
+    for run in bytes.chunk_by(|a, b| a == b) {
+        print_run(out, run)?;
     }
     out.write_all(b"\n")
 }
 
-// The index behind the bytes that are equal to the one at an index and follow it without a gap.
-fn run_end(bytes: &[u8], at: usize) -> usize
-    requires { at < length bytes.now }
-    ensures lower_bound { at < result }
-    ensures upper_bound { result ≤ length bytes.now }
-{
-    for end in at + 1..bytes.len() {
-        if bytes[end] != bytes[at] {
-            return end;
-        }
-    }
-    bytes.len()
-}
-
-fn print_run<W: Write>(out: &mut W, b: u8, times: usize) -> io::Result<()> {
+// Prints equal bytes.
+fn print_run<W: Write>(out: &mut W, run: &[u8]) -> io::Result<()> {
+    let times = run.len();
     if times < LONG {
-        return print_each(out, b, times);
+        return print_each(out, run);
     }
     write!(out, "{{{times}*")?;
-    print_name(out, b)?;
+    print_name(out, run[0])?;
     out.write_all(b"}")
 }
 
-fn print_each<W: Write>(out: &mut W, b: u8, times: usize) -> io::Result<()> {
-    for _ in 0..times {
-        print_byte(out, b)?;
+fn print_each<W: Write>(out: &mut W, bytes: &[u8]) -> io::Result<()> {
+    for b in bytes {
+        print_byte(out, *b)?;
     }
     Ok(())
 }
 
+// Prints a control byte by its name in braces, another as it is.
 fn print_byte<W: Write>(out: &mut W, b: u8) -> io::Result<()> {
-    if !is_control(b) {
-        return print_name(out, b);
+    match name(b) {
+        Some(name) => write!(out, "{{{name}}}"),
+        None => out.write_all(&[b]),
     }
-    out.write_all(b"{")?;
-    print_name(out, b)?;
-    out.write_all(b"}")
-}
-
-fn is_control(b: u8) -> bool {
-    (b == leaves::EOT)
-        | (b == leaves::FS)
-        | (b == leaves::GS)
-        | (b == leaves::RS)
-        | (b == leaves::US)
 }
 
 // Prints a control byte by its name, another as it is.
 fn print_name<W: Write>(out: &mut W, b: u8) -> io::Result<()> {
-    if is_control(b) {
-        print_control(out, b)
-    } else {
-        out.write_all(&[b])
+    match name(b) {
+        Some(name) => write!(out, "{name}"),
+        None => out.write_all(&[b]),
     }
 }
 
-fn print_control<W: Write>(out: &mut W, b: u8) -> io::Result<()> {
-    if b == leaves::EOT {
-        return out.write_all(b"EOT");
-    }
-    out.write_all(&[separated(b), b'S'])
-}
-
-// What a separator is for, by its first letter: files, groups, records, units.
-fn separated(b: u8) -> u8 {
+// A control byte's name.
+fn name(b: u8) -> Option<&'static str> {
     match b {
-        leaves::FS => b'F',
-        leaves::GS => b'G',
-        leaves::RS => b'R',
-        _ => b'U',
+        leaves::EOT => Some("EOT"),
+        leaves::FS => Some("FS"),
+        leaves::GS => Some("GS"),
+        leaves::RS => Some("RS"),
+        leaves::US => Some("US"),
+        _ => None,
     }
 }

@@ -1,26 +1,18 @@
 // A text taken apart at a byte.
-ghost use Rattle.std.specs.Prelude.{◌≤◌, length};
+ghost use Rattle.std.specs.Prelude.{◌<◌, length, IfSome};
 
-// The index of the first c at or after an index; the length where there is none.
-pub(crate) fn first(text: &[u8], from: usize, c: u8) -> usize
-    requires { from ≤ length text.now }
-    ensures lower_bound { from ≤ result }
-    ensures prefix_len { result ≤ length text.now }
+// What stands before a text's first separator, and what stands behind it; nothing where there is none.
+pub(crate) fn once(text: &[u8], separator: u8) -> Option<(&[u8], &[u8])>
+    ensures { IfSome result (λ parts. length parts.1.now < length text.now) }
 {
-    leaves::find(text, from, c)
+    let at = text.iter().position(|b| *b == separator)?;
+    Some((&text[..at], &text[at + 1..]))
 }
 
-// What stands before a text's first space; all of it where there is none.
-pub(crate) fn word(text: &[u8]) -> &[u8] {
-    let space = first(text, 0, b' ');
-    &text[..space]
-}
-
-// What stands behind a text's first space; the empty end where there is none.
-pub(crate) fn rest(text: &[u8]) -> &[u8] {
-    let space = first(text, 0, b' ');
-    if space < text.len() {
-        return &text[space + 1..];
+// A text's first word, which is all of it where it has no space, and what stands behind that space.
+pub(crate) fn word(text: &[u8]) -> (&[u8], &[u8]) {
+    match once(text, b' ') {
+        Some(parts) => parts,
+        None => (text, &[]),
     }
-    &text[space..]
 }
