@@ -20,14 +20,10 @@ pub fn permitted(k: Kind) -> Class
     ensures { class_of result ≡ permitted_of k }
 {
     match k {
-        Kind::Fields02 => Class::PlainOrGs,
-        Kind::Fields96 => Class::PlainOrGs,
-        Kind::Segments03 => Class::SegmentByte,
-        Kind::Segments04 => Class::SegmentByte,
-        Kind::Elements05 => Class::PlainOrGs,
-        Kind::Elements06 => Class::PlainOrGs,
+        Kind::Fields02 | Kind::Fields96 => Class::PlainOrGs,
+        Kind::Segments03 | Kind::Segments04 => Class::SegmentByte,
+        Kind::Elements05 | Kind::Elements06 | Kind::Elements12 => Class::PlainOrGs,
         Kind::Text => Class::TextByte,
-        Kind::Elements12 => Class::PlainOrGs,
     }
 }
 
@@ -36,18 +32,12 @@ fn separator(k: Kind) -> u8
     ensures { result ≡ separator_of k }
 {
     match k {
-        Kind::Fields02 => GS,
-        Kind::Fields96 => GS,
-        Kind::Segments03 => FS,
-        Kind::Segments04 => FS,
-        Kind::Elements05 => GS,
-        Kind::Elements06 => GS,
-        Kind::Text => GS,
-        Kind::Elements12 => GS,
+        Kind::Segments03 | Kind::Segments04 => FS,
+        _ => GS,
     }
 }
 
-// Whether each piece is as asked: one sweep, a piece a turn.
+// Whether each piece is as asked: one sweep, a piece a turn. Not by the library's `split`, whose contract doesn't say which pieces it gives.
 fn pieces_hold(k: Kind, s: &[u8]) -> bool
     ensures { result ≡ every_from (piece_test k) 0 (pieces (separator_of k) s.now) }
 {
@@ -68,11 +58,10 @@ fn pieces_hold(k: Kind, s: &[u8]) -> bool
 pub fn last_empty(s: &[u8], c: u8) -> bool
     ensures { result ≡ last_is_empty (pieces c s.now) }
 {
-    if s.len() == 0 {
-        return true;
+    match s {
+        [] => true,
+        [.., last] => *last == c,
     }
-    let last = s.len() - 1;
-    s[last] == c
 }
 
 // Fields of a version: five at least, not too many, each as stated, and past the fifth the last not empty.
@@ -89,14 +78,10 @@ fn fields_hold(k: Kind, most: usize, body: &[u8]) -> bool
 fn segments_hold(k: Kind, body: &[u8]) -> bool
     ensures { result ≡ segments_of (piece_test k) (separator_of k) body.now }
 {
-    if body.len() == 0 {
-        return false;
+    match body {
+        [segments @ .., FS] => pieces_hold(k, segments),
+        _ => false,
     }
-    if !last_empty(body, FS) {
-        return false;
-    }
-    let last = body.len() - 1;
-    pieces_hold(k, &body[..last])
 }
 
 // Whether a body keeps its format's rules.
@@ -106,12 +91,12 @@ pub fn rules_hold(k: Kind, body: &[u8]) -> bool
     match k {
         Kind::Fields02 => fields_hold(k, MOST_FIELDS_02, body),
         Kind::Fields96 => fields_hold(k, MOST_FIELDS_96, body),
-        Kind::Segments03 => segments_hold(k, body),
-        Kind::Segments04 => segments_hold(k, body),
+        Kind::Segments03 | Kind::Segments04 => segments_hold(k, body),
+        // Not one arm: with one call in place of three the refusal (e) takes 182,490 instructions, not 165,530, and misses its bar.
         Kind::Elements05 => pieces_hold(k, body),
         Kind::Elements06 => pieces_hold(k, body),
-        Kind::Text => true,
         Kind::Elements12 => pieces_hold(k, body),
+        Kind::Text => true,
     }
 }
 
@@ -137,13 +122,8 @@ pub fn rows_in(k: Kind, body: &[u8]) -> usize
     ensures { result ≡ rows_of_body k body.now }
 {
     match k {
-        Kind::Fields02 => piece_rows(body),
-        Kind::Fields96 => piece_rows(body),
-        Kind::Segments03 => segment_rows(body),
-        Kind::Segments04 => segment_rows(body),
-        Kind::Elements05 => piece_rows(body),
-        Kind::Elements06 => piece_rows(body),
+        Kind::Segments03 | Kind::Segments04 => segment_rows(body),
         Kind::Text => 1,
-        Kind::Elements12 => piece_rows(body),
+        _ => piece_rows(body),
     }
 }

@@ -1,46 +1,20 @@
--- The table against the list of formats: a number that none of the first arms has is looked up among those that its edition adds; and a shape is told by
--- its rule, since a sample tells the tests of elements and of tags apart, and tells its number.
+-- The table against the list of formats: a shape is told by its rule, since a sample tells the tests of elements and of tags apart, and tells its number.
 use Prim.Native.Nat.{ℕ}
 use mathlib.Core.Path.{◌≡◌, refl, sym, ap, ◌∙◌}
 use mathlib.Core.Bool.{Bool, true, false, cond, false≢true}
 use mathlib.Core.List.{List, [], ◌∷◌}
-use borrow.Author.Tests.{eqb-true, ne_eqb}
+use borrow.Author.Tests.{eqb-true}
 use lib.Dec.{eqb}
 use Rattle.label.specs.declared.Edition.{Edition}
 use Rattle.label.specs.declared.Edition.TheVariants.{Edition2005, Edition2025}
 use Rattle.label.specs.Bytes.{ascii}
-use Rattle.label.specs.Formats.{Format, formats, Rule, as_fields, as_rest, as_segments, as_elements, as_text, as_counted, unknown, added, rule_in, rule_of}
+use Rattle.label.specs.Formats.{Format, formats, Rule, as_fields, as_rest, as_segments, as_elements, as_text, as_counted, unknown, rule_in, rule_of}
 use Rattle.label.specs.Message.{Each}
 use Rattle.label.proofs.AllDefinitions.{all_definitions}
 use Rattle.label.proofs.Editions.{is_known}
 use Rattle.formats.specs.declared.Shape.{Shape}
 use Rattle.formats.specs.declared.Shape.TheVariants.{Fields, Rest, Segments03, Segments04, Elements05, Elements06, Elements12, Text, Counted, CountOnly, Unknown}
 use Rattle.formats.specs.Shapes.{rule_for}
-
--- a number that is none of 2005's
-abbrev pub NotOf2005 : ℕ → Type 0
-NotOf2005 f = ((((((((Unit {0} × (f ≡ 1 → ⊥)) × (f ≡ 2 → ⊥)) × (f ≡ 3 → ⊥)) × (f ≡ 4 → ⊥)) × (f ≡ 5 → ⊥)) × (f ≡ 6 → ⊥)) × (f ≡ 7 → ⊥)) × (f ≡ 9 → ⊥))
-
-pub only_added : (edition : Edition) (f : ℕ) → NotOf2005 f → rule_of edition f ≡ rule_in f (added edition)
-unfolding rule_of
-only_added edition f none_of =
-    simp (
-      ne_eqb f 1 none_of.0.0.0.0.0.0.0.1,
-      ne_eqb f 2 none_of.0.0.0.0.0.0.1,
-      ne_eqb f 3 none_of.0.0.0.0.0.1,
-      ne_eqb f 4 none_of.0.0.0.0.1,
-      ne_eqb f 5 none_of.0.0.0.1,
-      ne_eqb f 6 none_of.0.0.1,
-      ne_eqb f 7 none_of.0.1,
-      ne_eqb f 9 none_of.1,
-    )
-
--- nor one that 2025 adds
-abbrev pub NotAdded : ℕ → Type 0
-NotAdded f = (Unit {0} × (f ≡ 12 → ⊥)) × (f ≡ 15 → ⊥)
-
-pub none_added : (f : ℕ) → NotAdded f → rule_in f (added Edition2025) ≡ unknown
-none_added f none_of = simp (ne_eqb f 12 none_of.0.1, ne_eqb f 15 none_of.1)
 
 -- the shape that a rule is of
 abbrev shape_back : Rule → Shape

@@ -37,7 +37,8 @@ fn shape_added(edition: Edition, format: usize) -> Shape
     }
 }
 
-// The shape of a format in an edition.
+// The shape of a format in an edition. `Unknown` is a shape and no `None`: the variants are public, and `rule_for` gives each its rule.
+#[tactic(auto, unfolding(label::specs::Formats::rule_of))]
 pub fn shape_in(edition: Edition, format: usize) -> Shape
     ensures { rule_for result ≡ rule_of edition format }
 {

@@ -1,12 +1,10 @@
--- One turn of a loop over bytes: what a test of all and a search say of the bytes from an index on, by the byte at the index and those behind it; and what
--- a search and a tally say of bytes in front of others.
-use Prim.Native.Nat.{ℕ, zero, suc, ◌+◌, ◌-◌, ◌≤◌, ◌<◌}
+-- What a test of all, a search and a tally say of bytes, by the byte at an index and those behind it, by a byte more, and by bytes in front of others.
+use Prim.Native.Nat.{ℕ, zero, suc, ◌+◌, ◌-◌, ◌*◌, ◌≤◌, ◌<◌}
 use mathlib.Core.Path.{◌≡◌, refl, sym, ap, ◌∙◌}
 use mathlib.Core.Bool.{Bool, true, false, not, ◌&&◌, cond}
 use mathlib.Core.List.{List, [], ◌∷◌, ◌++◌}
 use native.Mathlib.Omega.{arith}
 use native.Mathlib.Numerals.{add-one}
-use borrow.Author.Tests.{eq-eqb, ne_eqb}
 use lib.Dec.{eqb}
 use lib.ListN.{length, get_or, take, drop, length-drop, length-take, take-append-drop}
 use lib.Seq.{drop-cons, take_all, drop-drop}
@@ -42,20 +40,18 @@ pub and_true : (a : Bool) → (a && true) ≡ a
 and_true true = refl
 and_true false = refl
 
-pub every_turn : (p : ℕ → Bool) (s : Bytes) (ok : Bool) (i : ℕ) → i < length s → ((ok && p (get_or s i 0)) && every p (drop (i + 1) s)) ≡ (ok && every p (drop i s))
-every_turn p s ok i inside = sym (ap (λ l. ok && every p l) (drop_step s i inside) ∙ and_assoc ok (p (get_or s i 0)) (every p (drop (i + 1) s)))
+-- a byte more
+pub every_push : (p : ℕ → Bool) (s : Bytes) (b : ℕ) → every p (s ++ b ∷ []) ≡ (every p s && p b)
+every_push p [] b = and_true (p b)
+every_push p (x ∷ s) b = ap (λ t. p x && t) (every_push p s b) ∙ and_assoc (p x) (every p s) (p b)
 
-pub every_end : (p : ℕ → Bool) (s : Bytes) (ok : Bool) (i : ℕ) → length s ≤ i → ok ≡ (ok && every p (drop i s))
-every_end p s ok i past = sym (ap (λ l. ok && every p l) (drop_past s i past) ∙ and_true ok)
-
-pub seek_here : (c : ℕ) (s : Bytes) (i : ℕ) → i < length s → get_or s i 0 ≡ c → seek c (drop i s) ≡ 0
-seek_here c s i inside is = ap (seek c) (drop_step s i inside) ∙ ap (λ t. cond t 0 (suc (seek c (drop (i + 1) s)))) (eq-eqb _ c is)
-
-pub seek_on : (c : ℕ) (s : Bytes) (i : ℕ) → i < length s → (get_or s i 0 ≡ c → ⊥) → seek c (drop i s) ≡ suc (seek c (drop (i + 1) s))
-seek_on c s i inside not = ap (seek c) (drop_step s i inside) ∙ ap (λ t. cond t 0 (suc (seek c (drop (i + 1) s)))) (ne_eqb _ c not)
-
-pub seek_past : (c : ℕ) (s : Bytes) (i : ℕ) → length s ≤ i → seek c (drop i s) ≡ 0
-seek_past c s i past = ap (seek c) (drop_past s i past)
+pub seek_within : (c : ℕ) (s : Bytes) → seek c s ≤ length s
+seek_within c [] = omega arith
+seek_within c (b ∷ s) = by (eqb b c) (seek_within c s)
+  where
+    by : (t : Bool) → seek c s ≤ length s → cond t 0 (suc (seek c s)) ≤ suc (length s)
+    by true here = omega arith
+    by false here = omega arith
 
 -- a part that runs to the end
 pub take_rest : {A : Type 0} (s : List A) (i : ℕ) → take (length s - i) (drop i s) ≡ drop i s
@@ -84,3 +80,14 @@ tally_behind c (b ∷ p) rest = by (eqb b c) (tally_behind c p rest)
         → cond t (suc (tally_of c (p ++ rest))) (tally_of c (p ++ rest)) ≡ cond t (suc (tally_of c p)) (tally_of c p) + tally_of c rest
     by true same = omega arith
     by false same = same
+
+-- blocks that lack it are passed over, one behind another
+pub seek_blocks : (c size : ℕ) (s : Bytes) (n : ℕ) → n * size ≤ length s → ((k : ℕ) → k < n → every (λ b. not (eqb b c)) (take size (drop (k * size) s)) ≡ true) → seek c s ≡ n * size + seek c (drop (n * size) s)
+seek_blocks c size s zero inside lack =
+    let none : 0 ≡ 0 * size = omega arith in
+    omega (arith, ap (λ n. seek c (drop n s)) none)
+seek_blocks c size s (suc n) inside lack =
+    let front : seek c s ≡ n * size + seek c (drop (n * size) s) = seek_blocks c size s n (omega arith) (λ k below. lack k (omega arith)) in
+    let block : seek c (drop (n * size) s) ≡ size + seek c (drop (n * size + size) s) = seek_block c s (n * size) size (omega arith) (lack n (omega arith)) in
+    let next : n * size + size ≡ suc n * size = omega arith in
+    front ∙ ap (λ k. n * size + k) (block ∙ ap (λ k. size + seek c (drop k s)) next) ∙ omega arith

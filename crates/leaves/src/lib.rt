@@ -2,7 +2,7 @@
 #![tactic(auto)]
 
 ghost use Rattle.std.specs.Prelude.{◌≡◌, not, ◌+◌, ◌-◌, eqb, drop};
-ghost use Rattle.label.specs.Bytes.{every};
+ghost use Rattle.label.specs.Bytes.{every, plain};
 ghost use Rattle.leaves.specs.Classes.{class_of};
 ghost use Rattle.leaves.specs.Seek.{seek};
 
@@ -29,19 +29,28 @@ pub enum Class {
     RestByte,
 }
 
+// Whether a byte is plain: 20 to 7E.
+#[tactic(auto, unfolding(label::specs::Bytes::plain, label::specs::Bytes::between))]
+fn is_plain(b: u8) -> bool
+    ensures { result ≡ plain b }
+{
+    matches!(b, b' '..=b'~')
+}
+
 // Whether a byte is of a class: no branch within a test, so that a fold over it is vectorised.
+#[tactic(auto, unfolding(label::specs::Bytes::digit, label::specs::Bytes::capital, label::specs::Bytes::capital_or_digit, label::specs::Bytes::between, label::specs::Bytes::below80, label::specs::Bytes::control, label::specs::Formats::rest_byte, label::specs::Formats::text_byte, label::specs::ReadEnvelope::plain_or_gs, label::specs::ReadEnvelope::segment_byte))]
 pub fn in_class(k: Class, b: u8) -> bool
     ensures { result ≡ class_of k b }
 {
     match k {
-        Class::Plain => (0x20 <= b) & (b <= 0x7E),
-        Class::Digit => (0x30 <= b) & (b <= 0x39),
-        Class::CapitalOrDigit => ((0x41 <= b) & (b <= 0x5A)) | ((0x30 <= b) & (b <= 0x39)),
-        Class::PlainOrGs => ((0x20 <= b) & (b <= 0x7E)) | (b == GS),
-        Class::SegmentByte => ((0x20 <= b) & (b <= 0x7E)) | (b == FS) | (b == GS) | (b == US),
-        Class::TextByte => (b < 0x80)
-            & !((b == EOT) | (b == FS) | (b == GS) | (b == RS) | (b == US)),
-        Class::RestByte => (b < 0x80) & !(b == RS) & !(b == EOT),
+        Class::Plain => is_plain(b),
+        Class::Digit => b.is_ascii_digit(),
+        Class::CapitalOrDigit => b.is_ascii_uppercase() | b.is_ascii_digit(),
+        Class::PlainOrGs => is_plain(b) | (b == GS),
+        // Not `matches!(b, FS | GS | US)`: reading (d) would take 577 instructions, not 553, and it is the case that misses its bar.
+        Class::SegmentByte => is_plain(b) | (b == FS) | (b == GS) | (b == US),
+        Class::TextByte => b.is_ascii() & !matches!(b, EOT | FS | GS | RS | US),
+        Class::RestByte => b.is_ascii() & !matches!(b, RS | EOT),
     }
 }
 
@@ -49,60 +58,45 @@ pub fn in_class(k: Class, b: u8) -> bool
 pub fn all_in(k: Class, s: &[u8]) -> bool
     ensures { result ≡ every (class_of k) s.now }
 {
-    let mut ok = true;
-    let mut i = 0;
-    while i < s.len() {
-        ok = ok & in_class(k, s[i]);
-        i += 1;
-    }
-    ok
+    s.iter().fold(true, |ok, b| ok & in_class(k, *b))
+}
+
+// The bytes from an index on; none where it lies behind the end.
+fn from_on(s: &[u8], from: usize) -> &[u8]
+    ensures { result.now ≡ drop from s.now }
+{
+    s.get(from..).unwrap_or(&[])
+}
+
+// How many bytes stand before the first c; all where there is none, as `seek` says.
+fn before(s: &[u8], c: u8) -> usize
+    ensures { result ≡ seek c s.now }
+{
+    s.iter().position(|b| *b == c).unwrap_or(s.len())
 }
 
 // The index of the first c at or after an index; the length where there is none, or the index where it lies behind that.
+// It answers an index and no Option: its contract, by `seek`, is public.
 pub fn find(s: &[u8], from: usize, c: u8) -> usize
     ensures { result ≡ from + seek c (drop from s.now) }
 {
-    let mut i = from;
-    while i < s.len() {
-        if s[i] == c {
-            return i;
-        }
-        i += 1;
-    }
-    i
+    from + before(from_on(s, from), c)
 }
 
-// Whether none of the bytes is c. It runs to the end whatever it meets, so that it is vectorised.
+// Whether none of the bytes is c. It runs to the end whatever it meets, as `all_in` does, so that it is vectorised.
 fn lacks(s: &[u8], c: u8) -> bool
     ensures { result ≡ every (λ b. not (eqb b c)) s.now }
 {
-    let mut ok = true;
-    let mut i = 0;
-    while i < s.len() {
-        ok = ok & (s[i] != c);
-        i += 1;
-    }
-    ok
-}
-
-// How many offsets there are from which on 64 bytes stand.
-fn block_starts(length: usize) -> usize
-    ensures { result ≡ length - 63 }
-{
-    if length < 63 { 0 } else { length - 63 }
+    s.iter().fold(true, |ok, b| ok & (*b != c))
 }
 
 // The same as `find`, for a byte that is likely far: 64 bytes at a time are passed over.
 pub fn find_far(s: &[u8], from: usize, c: u8) -> usize
     ensures { result ≡ from + seek c (drop from s.now) }
 {
-    let starts = block_starts(s.len());
-    let mut i = from;
-    while i < starts {
-        if !lacks(&s[i..i + 64], c) {
-            return find(s, i, c);
-        }
-        i += 64;
-    }
-    find(s, i, c)
+    let blocks = from_on(s, from)
+        .chunks_exact(64)
+        .take_while(|block| lacks(block, c))
+        .count();
+    find(s, from + 64 * blocks, c)
 }

@@ -48,19 +48,15 @@ fn for_96(field: usize, limit: Limit) -> Limit
     }
 }
 
-// The limits of a field, by version (0 for 02, 1 for 96) and field (0 for field No. 1); 0 and 0 where there is none.
+// The limits of a field, by version (0 for 02, 1 for 96) and field (0 for field No. 1); 0 and 0 where there is none. It takes numbers and
+// answers a pair: its contract, by `limit_of`, is public.
 pub fn limits_of(version: usize, field: usize) -> Limit
     ensures { result ≡ limit_of version field }
 {
-    if 2 <= version {
-        return Limit(0, 0);
+    let limit = LIMITS.get(field).copied().unwrap_or(Limit(0, 0));
+    match version {
+        0 => limit,
+        1 => for_96(field, limit),
+        _ => Limit(0, 0),
     }
-    if MOST_FIELDS_02 <= field {
-        return Limit(0, 0);
-    }
-    let limit = LIMITS[field];
-    if version == 0 {
-        return limit;
-    }
-    for_96(field, limit)
 }

@@ -1,15 +1,15 @@
 -- What an element of 05, 06 or 12 is, by the tests that the code makes of its length and of one byte after another.
-use Prim.Native.Nat.{ℕ, suc, ◌+◌, ◌-◌, ◌≤◌, ◌<◌}
+use Prim.Native.Nat.{ℕ, suc, ◌≤◌, ◌<◌}
 use mathlib.Core.Path.{◌≡◌, refl, sym, ap, ◌∙◌}
-use mathlib.Core.Bool.{Bool, true, false, not, ◌&&◌, cond}
+use mathlib.Core.Bool.{Bool, true, false, ◌&&◌, cond}
 use mathlib.Core.List.{[], ◌∷◌}
 use native.Mathlib.Omega.{arith}
-use borrow.Author.Tests.{le-leb, lt-leb, lt-ltb}
-use lib.ListN.{length, get_or, take, drop, length-drop}
-use lib.Dec.{leb, ltb, eqb}
-use Rattle.label.specs.Bytes.{Bytes, ascii, digit, capital, capital_or_digit, between, every, is_empty, same_bytes}
+use borrow.Author.Tests.{le-leb, lt-leb, leb-true, eq-eqb, ne_eqb}
+use lib.ListN.{length, get_or, take, drop}
+use lib.Dec.{leb, eqb}
+use Rattle.label.specs.Bytes.{Bytes, ascii, digit, capital, capital_or_digit, between, every, same_bytes}
 use Rattle.label.specs.Elements.{element05, capital_and_more, after_digits, element12}
-use Rattle.leaves.proofs.Turns.{drop_step, drop_past, and_true}
+use Rattle.leaves.proofs.Turns.{and_true}
 
 pub element05_short : (s : Bytes) → length s < 3 → false ≡ element05 s
 unfolding element05
@@ -23,47 +23,45 @@ element05_long (a ∷ (b ∷ [])) long = absurd (omega arith)
 element05_long (a ∷ (b ∷ (c ∷ s))) long =
     sym (ap (λ t. t && (digit a && (digit b && true))) (le-leb 3 (suc (suc (suc (length s)))) (omega arith)) ∙ ap (λ t. digit a && t) (and_true (digit b)))
 
-more_than_one : (b : ℕ) (bs : Bytes) → ltb 1 (length (b ∷ bs)) ≡ not (is_empty bs)
-more_than_one b [] = refl
-more_than_one b (x ∷ bs) = lt-ltb 1 (suc (suc (length bs))) (omega arith)
-
-pub capital_at : (s : Bytes) (at : ℕ) → at < length s → ((leb 0x41 (get_or s at 0) && leb (get_or s at 0) 0x5A) && ltb 1 (length s - at)) ≡ capital_and_more (drop at s)
+capital_first : (s : Bytes) → 2 ≤ length s → (leb 0x41 (get_or s 0 0) && leb (get_or s 0 0) 0x5A) ≡ capital_and_more s
 unfolding capital_and_more capital between
-capital_at s at inside =
-    let step = drop_step s at inside in
-    ap (λ n. (leb 0x41 (get_or s at 0) && leb (get_or s at 0) 0x5A) && ltb 1 n) (sym (length-drop at s) ∙ ap length step)
-    ∙ ap (λ t. (leb 0x41 (get_or s at 0) && leb (get_or s at 0) 0x5A) && t) (more_than_one (get_or s at 0) (drop (at + 1) s))
-    ∙ sym (ap capital_and_more step)
+capital_first [] long = absurd (omega arith)
+capital_first (b ∷ []) long = absurd (omega arith)
+capital_first (b ∷ (x ∷ s)) long = sym (and_true (leb 0x41 b && leb b 0x5A))
 
-pub capital_past : (s : Bytes) (at : ℕ) → length s ≤ at → false ≡ capital_and_more (drop at s)
-unfolding capital_and_more
-capital_past s at past = sym (ap capital_and_more (drop_past s at past))
+pub capital_front : (s : Bytes) → 2 ≤ length s → 0x41 ≤ get_or s 0 0 → get_or s 0 0 ≤ 0x5A → true ≡ capital_and_more s
+capital_front s long from to = sym (λ i. le-leb _ _ from i && le-leb _ _ to i) ∙ capital_first s long
 
--- Turns of the loop over the digits of a 06 element: at most 3 - i digits are still to come
+pub no_capital : (s : Bytes) → (2 ≤ length s → 0x41 ≤ get_or s 0 0 → get_or s 0 0 ≤ 0x5A → ⊥) → false ≡ capital_and_more s
+unfolding capital_and_more capital between
+no_capital [] none = refl
+no_capital (b ∷ []) none = by (leb 0x41 b && leb b 0x5A)
+  where
+    by : (t : Bool) → false ≡ (t && false)
+    by true = refl
+    by false = refl
+no_capital (b ∷ (x ∷ s)) none = by (leb 0x41 b) (leb b 0x5A) refl refl
+  where
+    by : (l r : Bool) → leb 0x41 b ≡ l → leb b 0x5A ≡ r → false ≡ ((l && r) && true)
+    by false r low high = refl
+    by true false low high = refl
+    by true true low high = absurd (none (omega arith) (leb-true 0x41 b low) (leb-true b 0x5A high))
 
-one_less : (i : ℕ) → i < 3 → 3 - i ≡ suc (3 - (i + 1))
-one_less i h = omega arith
+-- Turns of the loop over the digits of a 06 element, of which n are still to come at most
 
-pub digits_past : (s : Bytes) (i : ℕ) → i < 3 → length s ≤ i → false ≡ after_digits (3 - i) (drop i s)
+pub digit_on : (m n : ℕ) (s : Bytes) → n ≡ suc m → 1 ≤ length s → digit (get_or s 0 0) ≡ true → after_digits m (drop 1 s) ≡ after_digits n s
 unfolding after_digits
-digits_past s i h past = sym ((λ j. after_digits (one_less i h j) (drop_past s i past j)))
+digit_on m n [] more there is = absurd (omega arith)
+digit_on m n (b ∷ s) more there is = sym (ap (λ k. after_digits k (b ∷ s)) more ∙ ap (λ t. cond t (after_digits m s) (capital_and_more (b ∷ s))) is)
 
-digits_step : (s : Bytes) (i : ℕ) → i < 3 → i < length s → after_digits (3 - i) (drop i s) ≡ cond (digit (get_or s i 0)) (after_digits (3 - (i + 1)) (drop (i + 1) s)) (capital_and_more (get_or s i 0 ∷ drop (i + 1) s))
+pub digits_stop : (m n : ℕ) (s : Bytes) → n ≡ suc m → (1 ≤ length s → digit (get_or s 0 0) ≡ false) → capital_and_more s ≡ after_digits n s
+unfolding after_digits capital_and_more
+digits_stop m n [] more none = sym (ap (λ k. after_digits k []) more)
+digits_stop m n (b ∷ s) more none = sym (ap (λ k. after_digits k (b ∷ s)) more ∙ ap (λ t. cond t (after_digits m s) (capital_and_more (b ∷ s))) (none (omega arith)))
+
+pub digits_done : (n : ℕ) (s : Bytes) → n ≡ 0 → capital_and_more s ≡ after_digits n s
 unfolding after_digits
-digits_step s i h inside = λ j. after_digits (one_less i h j) (drop_step s i inside j)
-
-pub digits_stop : (s : Bytes) (i : ℕ) → i < 3 → i < length s → digit (get_or s i 0) ≡ false → capital_and_more (drop i s) ≡ after_digits (3 - i) (drop i s)
-digits_stop s i h inside not_digit =
-    ap capital_and_more (drop_step s i inside)
-    ∙ sym (digits_step s i h inside ∙ ap (λ t. cond t (after_digits (3 - (i + 1)) (drop (i + 1) s)) (capital_and_more (get_or s i 0 ∷ drop (i + 1) s))) not_digit)
-
-pub digits_on : (s : Bytes) (i : ℕ) → i < 3 → i < length s → digit (get_or s i 0) ≡ true → after_digits (3 - (i + 1)) (drop (i + 1) s) ≡ after_digits (3 - i) (drop i s)
-digits_on s i h inside is_digit =
-    sym (digits_step s i h inside ∙ ap (λ t. cond t (after_digits (3 - (i + 1)) (drop (i + 1) s)) (capital_and_more (get_or s i 0 ∷ drop (i + 1) s))) is_digit)
-
-pub digits_done : (s : Bytes) (i : ℕ) → i ≡ 3 → capital_and_more (drop 3 s) ≡ after_digits (3 - i) (drop i s)
-unfolding after_digits
-digits_done s i is = sym (ap (λ n. after_digits (3 - n) (drop n s)) is)
+digits_done n s none = sym (ap (λ k. after_digits k s) none)
 
 -- 12
 
@@ -88,3 +86,18 @@ element12_long (a ∷ (b ∷ (c ∷ (d ∷ (e ∷ s))))) long =
     by true true false d = refl
     by true false c d = refl
     by false b c d = refl
+
+-- with five bytes it goes by the space and the three in front of it
+pub spaced : (s : Bytes) → 5 ≤ length s → get_or s 3 0 ≡ 0x20 → ((capital_or_digit (get_or s 0 0) && capital_or_digit (get_or s 1 0)) && capital_or_digit (get_or s 2 0)) ≡ element12 s
+spaced s long is =
+    let three = (capital_or_digit (get_or s 0 0) && capital_or_digit (get_or s 1 0)) && capital_or_digit (get_or s 2 0) in
+    sym (ap (λ t. three && t) (eq-eqb _ _ is) ∙ and_true three) ∙ element12_long s long
+
+pub no_space : (s : Bytes) → 5 ≤ length s → (get_or s 3 0 ≡ 0x20 → ⊥) → false ≡ element12 s
+no_space s long other =
+    let three = (capital_or_digit (get_or s 0 0) && capital_or_digit (get_or s 1 0)) && capital_or_digit (get_or s 2 0) in
+    sym (ap (λ t. three && t) (ne_eqb _ _ other) ∙ by three) ∙ element12_long s long
+  where
+    by : (t : Bool) → (t && false) ≡ false
+    by true = refl
+    by false = refl

@@ -4,53 +4,48 @@ ghost use Rattle.label.specs.Elements.{element05, capital_and_more, element06, e
 
 use leaves::Class;
 
+// How many digits an element of 06 begins with at most.
+const MOST_DIGITS: usize = 3;
+
 // 05: at least three bytes, the first two digits.
 pub(crate) fn element_05(s: &[u8]) -> bool
     ensures { result ≡ element05 s.now }
 {
-    if s.len() < 3 {
-        return false;
+    match s {
+        [a, b, _, ..] => leaves::in_class(Class::Digit, *a) & leaves::in_class(Class::Digit, *b),
+        _ => false,
     }
-    leaves::in_class(Class::Digit, s[0]) & leaves::in_class(Class::Digit, s[1])
 }
 
-// A capital at an index, and at least one byte behind it.
-fn capital_and_more(s: &[u8], at: usize) -> bool
-    ensures { result ≡ capital_and_more (drop at s.now) }
+// A capital, and at least one byte behind it.
+fn capital_and_more(s: &[u8]) -> bool
+    ensures { result ≡ capital_and_more s.now }
 {
-    if at < s.len() {
-        let more = s.len() - at;
-        return (0x41 <= s[at]) & (s[at] <= 0x5A) & (1 < more);
-    }
-    false
+    matches!(s, [b'A'..=b'Z', _, ..])
 }
 
 // 06: zero to three digits, one capital, then at least one byte.
 pub(crate) fn element_06(s: &[u8]) -> bool
     ensures { result ≡ element06 s.now }
 {
-    let mut i = 0;
-    while i < 3 {
-        if s.len() <= i {
-            return false;
+    let mut rest = s;
+    for _i in 0..MOST_DIGITS {
+        match rest {
+            [b, behind @ ..] if leaves::in_class(Class::Digit, *b) => rest = behind,
+            _ => return capital_and_more(rest),
         }
-        if !leaves::in_class(Class::Digit, s[i]) {
-            return capital_and_more(s, i);
-        }
-        i += 1;
     }
-    capital_and_more(s, 3)
+    capital_and_more(rest)
 }
 
 // 12: three capitals or digits, a space, then at least one byte.
 pub(crate) fn element_12(s: &[u8]) -> bool
     ensures { result ≡ element12 s.now }
 {
-    if s.len() < 5 {
-        return false;
+    match s {
+        [a, b, c, b' ', _, ..] => leaves::in_class(Class::CapitalOrDigit, *a)
+            & leaves::in_class(Class::CapitalOrDigit, *b)
+            & leaves::in_class(Class::CapitalOrDigit, *c),
+        _ => false,
     }
-    leaves::in_class(Class::CapitalOrDigit, s[0])
-        & leaves::in_class(Class::CapitalOrDigit, s[1])
-        & leaves::in_class(Class::CapitalOrDigit, s[2])
-        & (s[3] == 0x20)
 }

@@ -1,5 +1,6 @@
 // Transport fields of 01. Field No. i + 1 is field i here; version 02 is row 0 of the limits, version 96 row 1.
-ghost use Rattle.std.specs.Prelude.{◌≡◌, get_or};
+ghost use Rattle.std.specs.Prelude.{◌≡◌, MatchOption, get_or};
+ghost use Rattle.label.specs.Pieces.{cut, absent, found};
 ghost use Rattle.label.specs.Bytes.{plain, every};
 ghost use Rattle.label.specs.declared.Version.TheVariants.{Version02};
 ghost use Rattle.label.specs.Fields.{few_digits, n_of_x, amount, unit, weight, yes_or_no, field_bytes};
@@ -8,14 +9,23 @@ ghost use Rattle.pieces.specs.PieceTests.{version_in, field_in};
 use label::LEAST_FIELDS;
 use leaves::Class;
 
-const SLASH: u8 = 0x2F;
-
-const POINT: u8 = 0x2E;
-
 // How long a weight's unit is.
 const UNIT_LENGTH: usize = 2;
 
+// The bytes on both sides of the first c; none where there is no c.
+fn cut_at(s: &[u8], c: u8) -> Option<(&[u8], &[u8])>
+    ensures { MatchOption result (cut c s.now ≡ absent) (λ p. cut c s.now ≡ found p.0.now p.1.now) }
+{
+    let at = leaves::find(s, 0, c);
+    if at < s.len() {
+        Some((&s[..at], &s[at + 1..]))
+    } else {
+        None
+    }
+}
+
 // 1 to 4 digits.
+#[tactic(auto, unfolding(label::specs::Fields::few_digits, label::specs::Limits::long_as))]
 fn few_digits(s: &[u8]) -> bool
     ensures { result ≡ few_digits s.now }
 {
@@ -23,37 +33,35 @@ fn few_digits(s: &[u8]) -> bool
 }
 
 // No. 9: 1 to 4 digits, `/`, 1 to 4 digits.
+#[tactic(auto, unfolding(label::specs::Fields::n_of_x, label::specs::Fields::both_sides))]
 fn n_of_x(s: &[u8]) -> bool
     ensures { result ≡ n_of_x s.now }
 {
-    let at = leaves::find(s, 0, SLASH);
-    if at < s.len() {
-        return few_digits(&s[..at]) & few_digits(&s[at + 1..]);
+    match cut_at(s, b'/') {
+        Some((n, x)) => few_digits(n) & few_digits(x),
+        None => false,
     }
-    false
 }
 
 // A weight's number: digits with at most one point, and at least one digit.
+#[tactic(auto, unfolding(label::specs::Fields::amount, label::specs::Fields::amount_by))]
 fn is_amount(s: &[u8]) -> bool
     ensures { result ≡ amount s.now }
 {
-    let at = leaves::find(s, 0, POINT);
-    if at < s.len() {
-        let before = leaves::all_in(Class::Digit, &s[..at]);
-        let behind = leaves::all_in(Class::Digit, &s[at + 1..]);
-        return before & behind & (s.len() != 1);
+    match cut_at(s, b'.') {
+        Some((before, behind)) => leaves::all_in(Class::Digit, before)
+            & leaves::all_in(Class::Digit, behind)
+            & !(before.is_empty() & behind.is_empty()),
+        None => leaves::all_in(Class::Digit, s) & !s.is_empty(),
     }
-    leaves::all_in(Class::Digit, s) & (s.len() != 0)
 }
 
 // A weight's unit: `LB` or `KG`.
+#[tactic(auto, unfolding(label::specs::Fields::unit))]
 fn is_unit(s: &[u8]) -> bool
     ensures { result ≡ unit s.now }
 {
-    if s.len() == UNIT_LENGTH {
-        return ((s[0] == 0x4C) & (s[1] == 0x42)) | ((s[0] == 0x4B) & (s[1] == 0x47));
-    }
-    false
+    matches!(s, b"LB" | b"KG")
 }
 
 // No. 10 in version 02: a number, and behind it a unit.
@@ -78,40 +86,33 @@ fn is_weight(row: usize, s: &[u8]) -> bool
 }
 
 // No. 11: `Y` or `N`.
+#[tactic(auto, unfolding(label::specs::Fields::yes_or_no))]
 fn yes_or_no(s: &[u8]) -> bool
     ensures { result ≡ yes_or_no s.now }
 {
-    if s.len() == 1 {
-        return (s[0] == 0x59) | (s[0] == 0x4E);
-    }
-    false
+    matches!(s, b"Y" | b"N")
 }
 
 // The column Bytes.
 fn field_bytes(row: usize, i: usize, s: &[u8]) -> bool
     ensures { result ≡ get_or (field_bytes (version_in row)) i (every plain) s.now }
 {
-    if i == 8 {
-        return n_of_x(s);
+    match i {
+        1 | 6 => leaves::all_in(Class::Digit, s),
+        8 => n_of_x(s),
+        9 => is_weight(row, s),
+        10 => yes_or_no(s),
+        _ => leaves::all_in(Class::Plain, s),
     }
-    if i == 9 {
-        return is_weight(row, s);
-    }
-    if i == 10 {
-        return yes_or_no(s);
-    }
-    if (i == 1) | (i == 6) {
-        return leaves::all_in(Class::Digit, s);
-    }
-    leaves::all_in(Class::Plain, s)
 }
 
 // A field has its length and its bytes; a later one may be empty.
+#[tactic(auto, unfolding(label::specs::Limits::long_as))]
 pub(crate) fn field_holds(row: usize, i: usize, s: &[u8]) -> bool
     ensures { result ≡ field_in row i s.now }
 {
     let limit = limits::limits_of(row, i);
-    let fits = (limit.0 as usize <= s.len()) & (s.len() <= limit.1 as usize);
+    let fits = (usize::from(limit.0) <= s.len()) & (s.len() <= usize::from(limit.1));
     let right = field_bytes(row, i, s);
-    (fits & right) | ((LEAST_FIELDS <= i) & (s.len() == 0))
+    (fits & right) | ((LEAST_FIELDS <= i) & s.is_empty())
 }

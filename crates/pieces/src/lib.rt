@@ -23,14 +23,15 @@ pub enum Kind {
 }
 
 // What is asked of the piece with an index.
+#[tactic(auto, unfolding(label::specs::Fields::field))]
 pub fn piece_holds(k: Kind, i: usize, p: &[u8]) -> bool
     ensures { result ≡ piece_test k i p.now }
 {
     match k {
         Kind::Fields02 => fields::field_holds(0, i, p),
         Kind::Fields96 => fields::field_holds(1, i, p),
-        Kind::Segments03 => segments::segment_03(p),
-        Kind::Segments04 => segments::segment_04(p),
+        Kind::Segments03 => segments::tag_03(segments::first_element(p)),
+        Kind::Segments04 => segments::tag_04(segments::first_element(p)),
         Kind::Elements05 => elements::element_05(p),
         Kind::Elements06 => elements::element_06(p),
         Kind::Text => true,

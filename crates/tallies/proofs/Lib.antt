@@ -1,3 +1,2 @@
-pub mod TallyTurns
 pub mod Agreement
 pub mod OneOutcome

@@ -6,18 +6,6 @@ ghost use Rattle.label.specs.ReadMessage.{agreement};
 pub fn agree(m: &[u8], at: usize, text: &[u8]) -> usize
     ensures { result ≡ agreement text.now (drop at m.now) }
 {
-    if m.len() < at {
-        return 0;
-    }
-    let mut i = 0;
-    while i < text.len() {
-        if m.len() - at <= i {
-            return i;
-        }
-        if m[at + i] != text[i] {
-            return i;
-        }
-        i += 1;
-    }
-    i
+    let from = m.get(at..).unwrap_or(&[]);
+    from.iter().zip(text).take_while(|(a, b)| *a == *b).count()
 }

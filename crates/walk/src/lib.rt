@@ -42,11 +42,11 @@ pub fn kind_of(stage: Stage) -> u32
 {
     match stage {
         Stage::Indicator => 1,
-        Stage::VersionValue => 2,
-        Stage::ReleaseValue => 2,
-        Stage::TypeValue => 2,
-        Stage::CompressionValue => 2,
-        Stage::CountValue => 2,
+        Stage::VersionValue
+        | Stage::ReleaseValue
+        | Stage::TypeValue
+        | Stage::CompressionValue
+        | Stage::CountValue => 2,
         Stage::Piece => 3,
         Stage::Tag => 4,
         Stage::LaterElement => 5,
@@ -72,23 +72,14 @@ pub fn count_from(m: &[u8], at: usize) -> usize
     ensures { result ≡ count_from 0 (drop at m.now) }
 {
     let mut n = 0;
-    let mut i = at;
-    while i < m.len() {
+    for i in at..m.len() {
         let b = m[i];
         if !leaves::in_class(Class::Digit, b) {
             return n;
         }
         if n < LONGEST {
-            n = 10 * n + wide(b - 0x30);
+            n = 10 * n + usize::from(b - b'0');
         }
-        i += 1;
     }
     n
-}
-
-// A byte as a number to count with.
-fn wide(x: u8) -> usize
-    ensures { result ≡ x }
-{
-    x as usize
 }

@@ -1,9 +1,7 @@
--- `last_empty` is `last_is_empty` of the pieces: there are no bytes, or the last byte tells.
-use Rattle.bodies.proofs.PieceLaws.{last_none, last_is}
+-- `last_empty` is `last_is_empty` of the pieces: the last byte tells, if there is one.
+use Rattle.std.proofs.Common.{arith}
+use Rattle.bodies.proofs.PieceLaws.{last_is}
 use Rattle.bodies.proofs.last_empty.Goals as goal
 
-pub returns-then-s-eq0 : goal.returns-then-s-eq0
-returns-then-s-eq0 c = last_none c.args.c c.args.s.now c.if-s-eq0.true
-
-pub returns : goal.returns
-returns c = last_is c.args.c c.args.s.now c.if-s-eq0.false
+pub returns-in-len1-up : goal.returns-in-len1-up
+returns-in-len1-up c = last_is c.args.c c.args.s.now (λ none. omega arith)

@@ -1,5 +1,6 @@
 -- `rules_hold` is `rules_of`, an arm for each kind.
 use mathlib.Core.Path.{◌∙◌}
+use mathlib.Core.Logic.{inl, inr}
 use Rattle.label.specs.Bytes.{GS}
 use Rattle.label.specs.Pieces.{pieces}
 use Rattle.label.specs.declared.Version.TheVariants.{Version02, Version96}
@@ -17,12 +18,10 @@ returns-in-Fields96 c = let is = c.in-Fields96.is in
     rw is (rw is at c.fields_hold-in-Fields96.ensures ∙ fields_law Version96 c.args.body.now)
 
 pub returns-in-Segments03 : goal.returns-in-Segments03
-returns-in-Segments03 c = let is = c.in-Segments03.is in
-    rw is (rw is at c.segments_hold.ensures ∙ segments_law tag03 c.args.body.now tag03_no_us)
-
-pub returns-in-Segments04 : goal.returns-in-Segments04
-returns-in-Segments04 c = let is = c.in-Segments04.is in
-    rw is (rw is at c.segments_hold-in-Segments04.ensures ∙ segments_law tag c.args.body.now tag_no_us)
+returns-in-Segments03 c = elim c.in-Segments03.is [
+  | inl is ↦ rw is (rw is at c.segments_hold.ensures ∙ segments_law tag03 c.args.body.now tag03_no_us)
+  | inr is ↦ rw is (rw is at c.segments_hold.ensures ∙ segments_law tag c.args.body.now tag_no_us)
+]
 
 pub returns-in-Elements05 : goal.returns-in-Elements05
 returns-in-Elements05 c = let is = c.in-Elements05.is in
@@ -31,9 +30,6 @@ returns-in-Elements05 c = let is = c.in-Elements05.is in
 pub returns-in-Elements06 : goal.returns-in-Elements06
 returns-in-Elements06 c = let is = c.in-Elements06.is in
     rw is (rw is at c.pieces_hold-in-Elements06.ensures ∙ every_elements element06 0 (pieces GS c.args.body.now))
-
-pub returns-in-Text : goal.returns-in-Text
-returns-in-Text c = rw c.in-Text.is
 
 pub returns-in-Elements12 : goal.returns-in-Elements12
 returns-in-Elements12 c = let is = c.in-Elements12.is in

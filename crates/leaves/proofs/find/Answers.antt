@@ -1,16 +1,10 @@
-use mathlib.Core.Path.{refl}
-use native.Mathlib.Omega.{arith}
-use Rattle.leaves.proofs.Turns.{seek_here, seek_on, seek_past}
+-- The index stands: the bytes from `from` on are no more than there are.
+use Rattle.std.proofs.Common.{arith, length-drop, ap, length, ◌∙◌}
+use Rattle.leaves.proofs.Turns.{seek_within}
 use Rattle.leaves.proofs.find.Goals as goal
 
-pub loop-i-init : goal.loop-i-init
-loop-i-init c = refl
-
-pub returns-then-s-i : goal.returns-then-s-i
-returns-then-s-i c = omega (arith, c.loop-i.invariant, seek_here c.args.c c.args.s.now c.loop-i.i c.loop-i-test.true c.if-s-i.true)
-
-pub loop-i-preserved : goal.loop-i-preserved
-loop-i-preserved c = omega (arith, c.loop-i.invariant, seek_on c.args.c c.args.s.now c.loop-i.i c.loop-i-test.true c.if-s-i.false)
-
-pub returns : goal.returns
-returns c = omega (arith, c.loop-i.invariant, seek_past c.args.c c.args.s.now c.loop-i.i c.loop-i-test.false)
+pub overflow_add-result : goal.overflow_add-result
+overflow_add-result c =
+    let s = c.args.s.now in
+    let long = ap length c.from_on.ensures ∙ length-drop c.args.from s in
+    omega (arith, long, seek_within c.args.c c.from_on.result.now, c.before-2.ensures)

@@ -1,19 +1,13 @@
-use mathlib.Core.Path.{refl, ◌∙◌}
-use mathlib.Core.Bool.{not}
-use borrow.Author.Rules.{rules}
-use lib.Dec.{eqb}
-use Rattle.leaves.proofs.Turns.{every_turn, every_end}
+-- `lacks` is a fold over the bytes: what it has after some of them is the test of these.
+use Rattle.std.proofs.Common.{ℕ, ◌≡◌, not, eqb, refl, subst, rules}
+use Rattle.std.proofs.lemmas.Fn.{fold_over, slice_gives, fronts}
+use Rattle.label.specs.Bytes.{every}
+use Rattle.leaves.proofs.Turns.{every_push}
 use Rattle.leaves.proofs.lacks.Goals as goal
 
-pub loop-i-init : goal.loop-i-init
-loop-i-init c = (search rules, refl)
-
-pub loop-i-preserved : goal.loop-i-preserved
-loop-i-preserved c = let args = c.args in
-    let at = c.loop-i in
-    (search rules, every_turn (λ b. not (eqb b args.c)) args.s.now at.ok at.i c.loop-i-test.true ∙ at.invariant.1)
-
 pub returns : goal.returns
-returns c = let args = c.args in
-    let at = c.loop-i in
-    every_end (λ b. not (eqb b args.c)) args.s.now at.ok at.i c.loop-i-test.false ∙ at.invariant.1
+returns c =
+    let p = λ (b : ℕ). not (eqb b c.args.c) in
+    subst (λ l. c.fold.result ≡ every p l) c.iter.ensures.rest
+    (fold_over fronts (λ y. y.now) _ (λ ys t. t ≡ every p ys) _ (λ ys a x b f' j k. let more = every_push p ys x.now in search rules)
+    _ _ _ _ (slice_gives c.iter.result) refl c.fold.ensures.ran)

@@ -1,4 +1,6 @@
-use mathlib.Core.Path.{refl, sym, ap, ◌∙◌}
+use Prim.Native.Nat.{◌≤◌}
+use lib.ListN.{length, drop}
+use mathlib.Core.Path.{◌≡◌, refl, sym, ap, ◌∙◌}
 use mathlib.Core.Bool.{true, false}
 use native.Mathlib.Omega.{arith}
 use borrow.Author.Rules.{rules}
@@ -29,4 +31,6 @@ pub returns : goal.returns
 returns c = let at = c.args.at in
     let m = c.args.m.now in
     let i = c.loop-i.i in
-    omega (arith, ap plain_run (drop_past m i c.loop-i-test.false), c.loop-i.invariant.1)
+    let stopped = ap plain_run (drop_past m i c.loop-i-test.false) in
+    let behind : length m ≤ at → plain_run (drop at m) ≡ 0 = λ past. ap plain_run (drop_past m at past) in
+    grind (arith, stopped, behind, c.loop-i.invariant.1, c.saturating_sub.ensures, c.loop-i.auto.i-end)

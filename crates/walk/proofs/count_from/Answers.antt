@@ -24,7 +24,7 @@ pub overflow_sub-b : goal.overflow_sub-b
 overflow_sub-b c = omega (arith, digit_value _ (sym c.in_class.ensures ∙ c.if-not-in_class.false))
 
 pub overflow_add-n : goal.overflow_add-n
-overflow_add-n c = omega (arith, c.wide.ensures, digit_value _ (sym c.in_class.ensures ∙ c.if-not-in_class.false))
+overflow_add-n c = omega (arith, c.from.ensures, digit_value _ (sym c.in_class.ensures ∙ c.if-not-in_class.false))
 
 pub loop-i-preserved : goal.loop-i-preserved
 loop-i-preserved c =
@@ -36,7 +36,7 @@ loop-i-preserved c =
     elim c.if-n-lt-LONGEST.branch [
       | then-n-lt-LONGEST w ↦ (
         omega (arith, digit_value _ is),
-        ap (λ k. count_from k (drop (i + 1) m)) (w.n-is ∙ ap (λ r. 10 * n + r) w.wide.ensures) ∙ count_grows m i inside n is w.if-n-lt-LONGEST.true ∙ c.loop-i.invariant.1,
+        ap (λ k. count_from k (drop (i + 1) m)) (w.n-is ∙ ap (λ r. 10 * n + r) w.from.ensures) ∙ count_grows m i inside n is w.if-n-lt-LONGEST.true ∙ c.loop-i.invariant.1,
       )
       | else-n-lt-LONGEST w ↦ (
         omega arith,

@@ -1,9 +1,16 @@
--- `capital_and_more` is `capital_and_more` of the bytes from an index on.
-use Rattle.pieces.proofs.ElementLaws.{capital_at, capital_past}
+-- The pattern asks for a capital and a byte behind it.
+use Rattle.std.proofs.Common.{arith}
+use Rattle.pieces.proofs.ElementLaws.{capital_front, no_capital}
 use Rattle.pieces.proofs.elements.capital_and_more.Goals as goal
 
-pub returns-then-at-s : goal.returns-then-at-s
-returns-then-at-s c = capital_at c.args.s.now c.args.at c.if-at-s.true
+pub returns-in-65-to-90 : goal.returns-in-65-to-90
+returns-in-65-to-90 c = capital_front c.args.s.now (omega arith) (omega arith) (omega arith)
 
-pub returns : goal.returns
-returns c = capital_past c.args.s.now c.args.at c.if-at-s.false
+pub returns-in_default : goal.returns-in_default
+returns-in_default c = no_capital c.args.s.now (λ long from to. omega arith)
+
+pub returns-in_default-2 : goal.returns-in_default-2
+returns-in_default-2 c = no_capital c.args.s.now (λ long from to. omega arith)
+
+pub returns-in_default-3 : goal.returns-in_default-3
+returns-in_default-3 c = no_capital c.args.s.now (λ long from to. omega arith)

@@ -1,35 +1,33 @@
-use mathlib.Core.Path.{refl, sym, ◌∙◌}
-use native.Mathlib.Omega.{arith}
-use borrow.Author.Rules.{rules}
-use Rattle.label.specs.Elements.{element06}
-use Rattle.pieces.proofs.ElementLaws.{digits_past, digits_stop, digits_on, digits_done}
+use Rattle.std.proofs.Common.{◌∙◌, ◌+◌, ◌-◌, refl, sym, ap, arith}
+use borrow.Author.Tests.{ltb-true}
+use Rattle.label.specs.Elements.{after_digits, element06}
+use Rattle.leaves.proofs.Turns.{take_rest}
+use Rattle.pieces.proofs.ElementLaws.{digit_on, digits_stop, digits_done}
 use Rattle.pieces.proofs.elements.element_06.Goals as goal
+use Rattle.pieces.proofs.elements.element_06.Goals.{in_default-via-then-rest-lt1, in_default-via-in-len1-up+else-in_class}
 
 pub loop-i-init : goal.loop-i-init
 unfolding element06
-loop-i-init c = (search rules, refl)
+loop-i-init c = refl
 
-pub returns-then-s-i : goal.returns-then-s-i
-returns-then-s-i c = digits_past c.args.s.now c.loop-i.i c.loop-i-test.true c.if-s-i.true ∙ c.loop-i.invariant.1
-
-pub returns-then-not-in_class : goal.returns-then-not-in_class
-returns-then-not-in_class c = let s = c.args.s.now in
-    let i = c.loop-i.i in
+pub returns-in_default : goal.returns-in_default
+returns-in_default c =
+    let rest = c.loop-i.rest.now in
+    let i = c.loop-i._i in
     c.capital_and_more.ensures
-    ∙ digits_stop s i c.loop-i-test.true c.if-s-i.false (sym c.in_class.ensures ∙ c.if-not-in_class.true)
-    ∙ c.loop-i.invariant.1
+    ∙ digits_stop (3 - (i + 1)) (3 - i) rest (omega arith) (elim c.in_default.branch [
+      | in_default-via-then-rest-lt1 w ↦ λ there. absurd (omega (arith, ltb-true))
+      | in_default-via-in-len1-up+else-in_class w ↦ λ there. sym w.in_class.ensures ∙ w.if-in_class.false
+    ])
+    ∙ c.loop-i.invariant
 
 pub loop-i-preserved : goal.loop-i-preserved
-loop-i-preserved c = let s = c.args.s.now in
-    let i = c.loop-i.i in (
-      search rules,
-      digits_on s i c.loop-i-test.true c.if-s-i.false (sym c.in_class.ensures ∙ c.if-not-in_class.false)
-          ∙ c.loop-i.invariant.1,
-    )
+loop-i-preserved c =
+    let rest = c.loop-i.rest.now in
+    let i = c.loop-i._i in
+    ap (after_digits (3 - (i + 1))) (take_rest rest 1)
+    ∙ digit_on (3 - (i + 1)) (3 - i) rest (omega arith) c.in-len1-up.len_at_least (sym c.in_class.ensures ∙ c.if-in_class.true)
+    ∙ c.loop-i.invariant
 
 pub returns : goal.returns
-returns c = let within = c.loop-i.invariant.0 in
-    let over = c.loop-i-test.false in
-    c.capital_and_more-2.ensures
-    ∙ digits_done c.args.s.now c.loop-i.i (omega arith)
-    ∙ c.loop-i.invariant.1
+returns c = c.capital_and_more-2.ensures ∙ digits_done (3 - c.loop-i._i) c.loop-i.rest.now (omega arith) ∙ c.loop-i.invariant

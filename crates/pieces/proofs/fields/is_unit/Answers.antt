@@ -1,9 +1,10 @@
--- `is_unit` is `unit`: two bytes are compared, and bytes of another length are none.
-use Rattle.pieces.proofs.FieldLaws.{two_letters, no_unit}
+-- Bytes of another length are no unit.
+use Rattle.std.proofs.Common.{arith}
+use Rattle.pieces.proofs.FieldLaws.{no_unit}
 use Rattle.pieces.proofs.fields.is_unit.Goals as goal
 
-pub returns-then-s-eq-UNIT_LENGTH : goal.returns-then-s-eq-UNIT_LENGTH
-returns-then-s-eq-UNIT_LENGTH c = two_letters c.args.s.now c.if-s-eq-UNIT_LENGTH.true
+pub returns-in_default : goal.returns-in_default
+returns-in_default c = no_unit c.args.s.now (λ is. omega arith)
 
-pub returns : goal.returns
-returns c = no_unit c.args.s.now c.if-s-eq-UNIT_LENGTH.false
+pub returns-in_default-5 : goal.returns-in_default-5
+returns-in_default-5 c = no_unit c.args.s.now (λ is. omega arith)

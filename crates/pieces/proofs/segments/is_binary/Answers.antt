@@ -1,10 +1,11 @@
--- `is_binary` compares three bytes; bytes of another length differ.
-use Rattle.pieces.proofs.TagLaws.{three_bytes, other_length}
+-- Bytes of another length differ.
+use Rattle.std.proofs.Common.{arith}
 use Rattle.label.specs.Bytes.{ascii}
+use Rattle.pieces.proofs.TagLaws.{other_length}
 use Rattle.pieces.proofs.segments.is_binary.Goals as goal
 
-pub returns-then-s-eq3 : goal.returns-then-s-eq3
-returns-then-s-eq3 c = three_bytes c.args.s.now 0x42 0x49 0x4E c.if-s-eq3.true
+pub returns-in_default : goal.returns-in_default
+returns-in_default c = other_length c.args.s.now (ascii "BIN") (λ is. omega arith)
 
-pub returns : goal.returns
-returns c = other_length c.args.s.now (ascii "BIN") c.if-s-eq3.false
+pub returns-in_default-5 : goal.returns-in_default-5
+returns-in_default-5 c = other_length c.args.s.now (ascii "BIN") (λ is. omega arith)

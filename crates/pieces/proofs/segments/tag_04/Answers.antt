@@ -1,14 +1,13 @@
--- `tag_04` is `tag`: too short, or the tests of length, first byte and all bytes.
-use mathlib.Core.Path.{ap, ◌∙◌}
-use mathlib.Core.Bool.{◌&&◌}
-use lib.ListN.{length, get_or}
-use lib.Dec.{leb}
-use Rattle.pieces.proofs.TagLaws.{tag_short, tag_long}
+-- `tag_04` is `tag`: of another length, or the tests of first byte and all bytes.
+use Rattle.std.proofs.Common.{◌∙◌, ◌&&◌, arith}
+use Rattle.pieces.proofs.TagLaws.{no_tag, tag_there}
 use Rattle.pieces.proofs.segments.tag_04.Goals as goal
 
-pub returns-then-s-lt2 : goal.returns-then-s-lt2
-returns-then-s-lt2 c = tag_short c.args.s.now c.if-s-lt2.true
+pub returns-in_default : goal.returns-in_default
+returns-in_default c = no_tag c.args.s.now (λ is. omega arith) (λ is. omega arith)
 
-pub returns : goal.returns
-returns c = let s = c.args.s.now in
-    ap (λ t. (leb (length s) 3 && (leb 0x41 (get_or s 0 0) && leb (get_or s 0 0) 0x5A)) && t) c.all_in.ensures ∙ tag_long s c.if-s-lt2.false
+pub returns-in_default-2 : goal.returns-in_default-2
+returns-in_default-2 c = no_tag c.args.s.now (λ is. omega arith) (λ is. omega arith)
+
+pub returns-in-len2 : goal.returns-in-len2
+returns-in-len2 c = (λ i. c.is_ascii_uppercase.ensures.value i && c.all_in.ensures i) ∙ tag_there c.args.s.now c.in-len2.len_at_least c.in-len2.len_below
