@@ -1,11 +1,11 @@
 -- The faults of fields and elements by the tests that the code makes; a turn of the search for the first; and where a fault starts lies in the body.
 use Rattle.std.specs.Prelude.{None, Option, Some}
-use Prim.Native.Nat.{ℕ, zero, suc, ◌+◌, ◌≤◌, ◌<◌}
+use Prim.Native.Nat.{ℕ, zero, suc, ◌+◌, ◌≤◌}
 use mathlib.Core.Path.{◌≡◌, refl, sym, ap, ◌∙◌}
 use mathlib.Core.Bool.{Bool, true, false, not, ◌&&◌, ◌||◌, cond}
 use mathlib.Core.List.{List, [], ◌∷◌}
 use native.Mathlib.Omega.{arith}
-use borrow.Author.Tests.{lt-ltb, le-ltb, lt-leb}
+use borrow.Author.Tests.{lt-ltb, lt-leb}
 use lib.ListN.{length, get_or, drop, length-append}
 use lib.Seq.{drop-nil}
 use lib.Dec.{leb, ltb, leb-suc-suc}
@@ -13,7 +13,6 @@ use Rattle.label.specs.declared.Reason.{Reason}
 use Rattle.label.specs.declared.Reason.TheVariants.{BadFieldCount, FieldTooShort, FieldTooLong, BadFieldBytes}
 use Rattle.label.specs.Bytes.{Bytes, GS, plain, every, is_empty}
 use Rattle.label.specs.Pieces.{pieces, last_is_empty}
-use Rattle.label.specs.declared.Limit.{Limit}
 use Rattle.label.specs.Limits.{limit_of, long_as}
 use Rattle.label.specs.declared.Version.{Version}
 use Rattle.label.specs.declared.Version.TheVariants.{Version02, Version96}
@@ -32,21 +31,8 @@ use Rattle.label.specs.declared.Refusal.{Refusal}
 -- Fields
 
 -- why a field is refused, by the limits that were looked up
-module _ (l : Limit) (row i n : ℕ) (is : l ≡ limit_of row i) where
-  by_length : (short long : Bool) → ltb n l.0 ≡ short → ltb l.1 n ≡ long → cond short FieldTooShort (cond long FieldTooLong BadFieldBytes) ≡ field_reason row i n
-  by_length short long s g = (λ j. cond (sym s j) FieldTooShort (cond (sym g j) FieldTooLong BadFieldBytes)) ∙ (λ j. cond (ltb n (is j).0) FieldTooShort (cond (ltb (is j).1 n) FieldTooLong BadFieldBytes))
-
-  pub reason_short : n < l.0 → FieldTooShort ≡ field_reason row i n
-  reason_short short = by_length true (ltb l.1 n) (lt-ltb n l.0 short) refl
-
-  pub reason_long : l.0 ≤ n → l.1 < n → FieldTooLong ≡ field_reason row i n
-  reason_long enough long = by_length false true (le-ltb n l.0 enough) (lt-ltb l.1 n long)
-
-  pub reason_bytes : l.0 ≤ n → n ≤ l.1 → BadFieldBytes ≡ field_reason row i n
-  reason_bytes enough few = by_length false false (le-ltb n l.0 enough) (le-ltb l.1 n few)
-
 -- a field that isn't as stated and fits its limits has wrong bytes
-field_fault_by : (v : Version) (i : ℕ) (f : Bytes) → cond (field v i f) None (Some (field_reason (version_row v) i (length f))) ≡ field_fault v i f
+field_fault_by : (v : Version) (i : ℕ) (f : Bytes) → cond (field v i f) None (Some (field_reason v i (length f))) ≡ field_fault v i f
 unfolding field field_fault long_as
 field_fault_by v i f =
     (λ j. cond (leb least (length f) && leb (length f) greatest && right || left_out i f) None (Some (cond (not_leb (length f) least j) FieldTooShort (cond (not_leb greatest (length f) j) FieldTooLong BadFieldBytes))))

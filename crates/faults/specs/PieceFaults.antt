@@ -5,9 +5,10 @@ use Rattle.label.specs.declared.Reason.TheVariants.{BodyBreaksRules, BadFieldCou
 use Rattle.label.specs.Bytes.{Bytes, GS}
 use Rattle.label.specs.Pieces.{pieces, last_is_empty}
 use Rattle.label.specs.Limits.{limit_of}
+use Rattle.label.specs.declared.Version.{Version}
 use Rattle.label.specs.declared.Version.TheVariants.{Version02, Version96}
 use Rattle.label.specs.Elements.{element05, element06, element12}
-use Rattle.label.specs.Fields.{least_fields}
+use Rattle.label.specs.Fields.{least_fields, version_row}
 use Rattle.label.specs.Faults.{first_fault, fields_fault, elements_fault, whole_fault, in_piece}
 use Rattle.leaves.specs.Seek.{tally_of}
 use Rattle.pieces.specs.declared.Kind.{Kind}
@@ -15,16 +16,16 @@ use Rattle.pieces.specs.declared.Kind.TheVariants.{Fields02, Fields96, Segments0
 use Rattle.pieces.specs.PieceTests.{piece_test}
 use Rattle.label.specs.declared.Refusal.{Refusal}
 
--- why a field is refused that isn't as stated, by the row of its version in the limits
-abbrev pub field_reason : ℕ → ℕ → ℕ → Reason
-field_reason row i n =
-    cond (ltb n (limit_of row i).0) FieldTooShort
-    (cond (ltb (limit_of row i).1 n) FieldTooLong
+-- why a field of a version is refused that isn't as stated
+abbrev pub field_reason : Version → ℕ → ℕ → Reason
+field_reason v i n =
+    cond (ltb n (limit_of (version_row v) i).0) FieldTooShort
+    (cond (ltb (limit_of (version_row v) i).1 n) FieldTooLong
     BadFieldBytes)
 
 abbrev pub reason_of : Kind → ℕ → ℕ → Reason
-reason_of Fields02 i n = field_reason 0 i n
-reason_of Fields96 i n = field_reason 1 i n
+reason_of Fields02 i n = field_reason Version02 i n
+reason_of Fields96 i n = field_reason Version96 i n
 reason_of Segments03 i n = BodyBreaksRules
 reason_of Segments04 i n = BodyBreaksRules
 reason_of Elements05 i n = BodyBreaksRules

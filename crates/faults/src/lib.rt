@@ -8,19 +8,19 @@ ghost use Rattle.label.specs.Pieces.{pieces};
 ghost use Rattle.label.specs.Faults.{first_fault};
 ghost use Rattle.faults.specs.PieceFaults.{field_reason, reason_of, piece_fault, fields_fault_of, fault_of};
 
-use label::{LEAST_FIELDS, MOST_FIELDS_02, MOST_FIELDS_96, Reason, Refusal};
+use label::{LEAST_FIELDS, MOST_FIELDS_02, MOST_FIELDS_96, Reason, Refusal, Version};
 use leaves::GS;
 use pieces::Kind;
 
 // Why a field of so many bytes is refused that isn't as stated: its length, or else its bytes.
-fn field_reason(row: usize, i: usize, n: usize) -> Reason
-    ensures { result ≡ field_reason row i n }
+fn field_reason(version: Version, i: usize, n: usize) -> Reason
+    ensures { result ≡ field_reason version i n }
 {
-    let limit = limits::limits_of(row, i);
-    if n < limit.0 as usize {
+    let limit = limits::limits_in(version, i);
+    if n < usize::from(limit.0) {
         return Reason::FieldTooShort;
     }
-    if (limit.1 as usize) < n {
+    if usize::from(limit.1) < n {
         return Reason::FieldTooLong;
     }
     Reason::BadFieldBytes
@@ -31,8 +31,8 @@ fn reason_of(k: Kind, i: usize, n: usize) -> Reason
     ensures { result ≡ reason_of k i n }
 {
     match k {
-        Kind::Fields02 => field_reason(0, i, n),
-        Kind::Fields96 => field_reason(1, i, n),
+        Kind::Fields02 => field_reason(Version::Version02, i, n),
+        Kind::Fields96 => field_reason(Version::Version96, i, n),
         _ => Reason::BodyBreaksRules,
     }
 }

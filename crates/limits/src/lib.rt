@@ -5,9 +5,10 @@
 
 ghost use Rattle.std.specs.Prelude.{◌≡◌};
 ghost use Rattle.label.specs.Limits.{limit_of};
+ghost use Rattle.label.specs.Fields.{version_row};
 ghost use Rattle.limits.specs.Worked.{for96};
 
-use label::{Limit, MOST_FIELDS_02};
+use label::{Limit, MOST_FIELDS_02, Version};
 
 // 'Transport fields', version 02: a pair for each field in its order.
 const LIMITS: [Limit; MOST_FIELDS_02] = [
@@ -48,15 +49,24 @@ fn for_96(field: usize, limit: Limit) -> Limit
     }
 }
 
-// The limits of a field, by version (0 for 02, 1 for 96) and field (0 for field No. 1); 0 and 0 where there is none. It takes numbers and
-// answers a pair: its contract, by `limit_of`, is public.
-pub fn limits_of(version: usize, field: usize) -> Limit
-    ensures { result ≡ limit_of version field }
+// The limits of a field of a version, 0 for field No. 1; 0 and 0 where there is none.
+pub fn limits_in(version: Version, field: usize) -> Limit
+    ensures { result ≡ limit_of (version_row version) field }
 {
     let limit = LIMITS.get(field).copied().unwrap_or(Limit(0, 0));
     match version {
-        0 => limit,
-        1 => for_96(field, limit),
+        Version::Version02 => limit,
+        Version::Version96 => for_96(field, limit),
+    }
+}
+
+// The same by the version's number, 0 for 02 and 1 for 96; 0 and 0 for any other. It takes every number, as docs/promises has it.
+pub fn limits_of(version: usize, field: usize) -> Limit
+    ensures { result ≡ limit_of version field }
+{
+    match version {
+        0 => limits_in(Version::Version02, field),
+        1 => limits_in(Version::Version96, field),
         _ => Limit(0, 0),
     }
 }

@@ -1,24 +1,13 @@
 -- What is asked of one piece of a body that runs to an RS, by the body's kind.
-use Rattle.std.specs.Prelude.{ℕ, zero, suc, Bool, true, ◌&&◌, ◌||◌, take, get_or, leb}
-use Rattle.label.specs.Bytes.{Bytes, GS, plain, every, is_empty}
-use Rattle.label.specs.Limits.{limit_of, long_as}
-use Rattle.label.specs.declared.Version.{Version}
+use Rattle.std.specs.Prelude.{ℕ, Bool, true, take}
+use Rattle.label.specs.Bytes.{Bytes, GS}
 use Rattle.label.specs.declared.Version.TheVariants.{Version02, Version96}
 use Rattle.label.specs.Elements.{element05, element06, element12}
 use Rattle.label.specs.Segments.{tag, tag03}
-use Rattle.label.specs.Fields.{field_bytes, least_fields, field}
+use Rattle.label.specs.Fields.{field}
 use Rattle.leaves.specs.Seek.{seek}
 use Rattle.pieces.specs.declared.Kind.{Kind}
 use Rattle.pieces.specs.declared.Kind.TheVariants.{Fields02, Fields96, Segments03, Segments04, Elements05, Elements06, Text, Elements12}
-
--- the version that a row of the limits is of
-abbrev pub version_in : ℕ → Version
-version_in zero = Version02
-version_in (suc row) = Version96
-
--- a field by the row of its version in the limits
-abbrev pub field_in : ℕ → ℕ → Bytes → Bool
-field_in row i bs = long_as (limit_of row i) bs && get_or (field_bytes (version_in row)) i (every plain) bs || leb least_fields i && is_empty bs
 
 -- what is asked of the piece with an index
 abbrev pub piece_test : Kind → ℕ → Bytes → Bool

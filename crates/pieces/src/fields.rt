@@ -1,12 +1,11 @@
-// Transport fields of 01. Field No. i + 1 is field i here; version 02 is row 0 of the limits, version 96 row 1.
+// Transport fields of 01. Field No. i + 1 is field i here.
 ghost use Rattle.std.specs.Prelude.{◌≡◌, MatchOption, get_or};
 ghost use Rattle.label.specs.Pieces.{cut, absent, found};
 ghost use Rattle.label.specs.Bytes.{plain, every};
 ghost use Rattle.label.specs.declared.Version.TheVariants.{Version02};
-ghost use Rattle.label.specs.Fields.{few_digits, n_of_x, amount, unit, weight, yes_or_no, field_bytes};
-ghost use Rattle.pieces.specs.PieceTests.{version_in, field_in};
+ghost use Rattle.label.specs.Fields.{few_digits, n_of_x, amount, unit, weight, yes_or_no, field_bytes, field};
 
-use label::LEAST_FIELDS;
+use label::{LEAST_FIELDS, Version};
 use leaves::Class;
 
 // How long a weight's unit is.
@@ -76,13 +75,13 @@ fn amount_and_unit(s: &[u8]) -> bool
 }
 
 // No. 10: version 96 has no unit.
-fn is_weight(row: usize, s: &[u8]) -> bool
-    ensures { result ≡ weight (version_in row) s.now }
+fn is_weight(version: Version, s: &[u8]) -> bool
+    ensures { result ≡ weight version s.now }
 {
-    if row == 0 {
-        return amount_and_unit(s);
+    match version {
+        Version::Version02 => amount_and_unit(s),
+        Version::Version96 => is_amount(s),
     }
-    is_amount(s)
 }
 
 // No. 11: `Y` or `N`.
@@ -94,25 +93,25 @@ fn yes_or_no(s: &[u8]) -> bool
 }
 
 // The column Bytes.
-fn field_bytes(row: usize, i: usize, s: &[u8]) -> bool
-    ensures { result ≡ get_or (field_bytes (version_in row)) i (every plain) s.now }
+fn field_bytes(version: Version, i: usize, s: &[u8]) -> bool
+    ensures { result ≡ get_or (field_bytes version) i (every plain) s.now }
 {
     match i {
         1 | 6 => leaves::all_in(Class::Digit, s),
         8 => n_of_x(s),
-        9 => is_weight(row, s),
+        9 => is_weight(version, s),
         10 => yes_or_no(s),
         _ => leaves::all_in(Class::Plain, s),
     }
 }
 
 // A field has its length and its bytes; a later one may be empty.
-#[tactic(auto, unfolding(label::specs::Limits::long_as))]
-pub(crate) fn field_holds(row: usize, i: usize, s: &[u8]) -> bool
-    ensures { result ≡ field_in row i s.now }
+#[tactic(auto, unfolding(label::specs::Limits::long_as, label::specs::Fields::field))]
+pub(crate) fn field_holds(version: Version, i: usize, s: &[u8]) -> bool
+    ensures { result ≡ field version i s.now }
 {
-    let limit = limits::limits_of(row, i);
+    let limit = limits::limits_in(version, i);
     let fits = (usize::from(limit.0) <= s.len()) & (s.len() <= usize::from(limit.1));
-    let right = field_bytes(row, i, s);
+    let right = field_bytes(version, i, s);
     (fits & right) | ((LEAST_FIELDS <= i) & s.is_empty())
 }

@@ -9,6 +9,8 @@ mod segments;
 ghost use Rattle.std.specs.Prelude.{◌≡◌};
 ghost use Rattle.pieces.specs.PieceTests.{piece_test};
 
+use label::Version;
+
 // A body that runs to an RS, by its format, and for 01 its version.
 #[derive(Clone, Copy)]
 pub enum Kind {
@@ -23,13 +25,12 @@ pub enum Kind {
 }
 
 // What is asked of the piece with an index.
-#[tactic(auto, unfolding(label::specs::Fields::field))]
 pub fn piece_holds(k: Kind, i: usize, p: &[u8]) -> bool
     ensures { result ≡ piece_test k i p.now }
 {
     match k {
-        Kind::Fields02 => fields::field_holds(0, i, p),
-        Kind::Fields96 => fields::field_holds(1, i, p),
+        Kind::Fields02 => fields::field_holds(Version::Version02, i, p),
+        Kind::Fields96 => fields::field_holds(Version::Version96, i, p),
         Kind::Segments03 => segments::tag_03(segments::first_element(p)),
         Kind::Segments04 => segments::tag_04(segments::first_element(p)),
         Kind::Elements05 => elements::element_05(p),
