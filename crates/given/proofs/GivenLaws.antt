@@ -1,12 +1,10 @@
 -- The rows that are given: one turn of a loop over them, whether a row stands at an index, and what it says that they stand.
-use Prim.Native.Nat.{ℕ, suc, ◌+◌, ◌%◌, ◌/◌, ◌≤◌, ◌<◌}
+use Prim.Native.Nat.{ℕ, ◌+◌, ◌%◌, ◌/◌, ◌≤◌, ◌<◌}
 use mathlib.Core.Path.{◌≡◌, refl, sym, ap, ◌∙◌}
-use mathlib.Core.Bool.{Bool, true, false, ◌&&◌, cond}
+use mathlib.Core.Bool.{Bool, true, false, ◌&&◌}
 use mathlib.Core.List.{List, [], ◌∷◌, ◌++◌}
 use native.Mathlib.Omega.{arith}
-use native.Mathlib.Nat.{add-zero}
-use native.Mathlib.Numerals.{add-one}
-use borrow.Author.Tests.{leb-true, leb-false, lt-ltb, le-ltb, le-leb, lt-leb, eqb-true, eq-eqb, ne_eqb}
+use borrow.Author.Tests.{leb-true, le-leb, lt-leb, eqb-true, eq-eqb, ne_eqb}
 use lib.ListN.{length, get_or}
 use lib.Dec.{leb, ltb, eqb}
 use Rattle.label.specs.Bytes.{Bytes, every}
@@ -24,7 +22,7 @@ use Rattle.walk.specs.declared.Stage.{Stage}
 use Rattle.walk.specs.declared.Stage.TheVariants.{Indicator, VersionValue, ReleaseValue, TypeValue, CompressionValue, CountValue, Piece, Tag, LaterElement, FurtherSubElement, Body}
 use Rattle.walk.specs.Cursors.{kind_of, row_of}
 use Rattle.given.specs.declared.Given.{Given}
-use Rattle.given.specs.Given.{Whole, no_row, row_at, as_row, ordinals_counted, alike_row}
+use Rattle.given.specs.Given.{Whole, no_row, row_at, row_or_none, as_row, ordinals_counted, alike_row}
 
 -- five numbers in front of others are a row and its ordinal
 pub rows_cut : (x rest : List ℕ) → length x ≡ row_width → rows_in (x ++ rest) ≡ row_from x 0 ∷ rows_in rest
@@ -66,6 +64,9 @@ no_ordinal_left (k ∷ (f ∷ (s ∷ (l ∷ (o ∷ ns))))) short = absurd (omega
 module _ (ns : List ℕ) (at : ℕ) where
   pub row_at_some : at + row_width ≤ length ns → row_at ns at ≡ Some (row_from ns at)
   row_at_some room = cond_yes _ _ _ (le-leb (at + row_width) (length ns) room)
+
+pub row_there : (ns : List ℕ) (at : ℕ) → at + row_width ≤ length ns → row_or_none ns at ≡ row_from ns at
+row_there ns at room = ap (λ (o : Option Row). unwrap_or o no_row) (row_at_some ns at room)
 
 pub row_here : (x : List ℕ) (o : Option Given) (row : Given) → length x ≡ row_width → option_map as_row o ≡ row_at x 0 → o ≡ Some row → as_row row ≡ row_from x 0
 row_here x o row five is some =

@@ -1,5 +1,4 @@
 use Prim.Native.Nat.{◌+◌}
-use lib.Dec.{ltb}
 use mathlib.Core.Path.{refl, sym, ap, ◌∙◌}
 use mathlib.Core.Bool.{◌&&◌}
 use native.Mathlib.Omega.{arith}
