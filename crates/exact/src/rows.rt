@@ -13,11 +13,14 @@ fn put_row(t: &mut [u32], at: usize, c: Cursor, ordinal: u32)
     requires { Fits t.old at c }
     ensures { t.new ≡ take at t.old ++ (numbers (row_of c) ordinal ++ drop (at + row_width) t.old) }
 {
-    t[at] = walk::kind_of(c.stage);
-    t[at + 1] = c.format;
-    t[at + 2] = c.start as u32;
-    t[at + 3] = c.length as u32;
-    t[at + 4] = ordinal;
+    let row = [
+        walk::kind_of(c.stage),
+        c.format,
+        c.start as u32,
+        c.length as u32,
+        ordinal,
+    ];
+    t[at..at + ROW].copy_from_slice(&row);
 }
 
 // Fills a table with the rows of a message, whose number is known; what lies behind them stays as it was.

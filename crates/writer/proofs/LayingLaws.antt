@@ -18,7 +18,7 @@ use Rattle.label.specs.Writing.{rows_in, inside, item_in, items_in}
 use Rattle.label.specs.Counting.{row_from}
 use Rattle.label.proofs.Tests.{Both, both}
 use Rattle.given.proofs.GivenLaws.{rows_cut, no_row_left}
-use Rattle.writer.specs.Laying.{marks_before}
+use Rattle.writer.specs.Laying.{marks_before, laid}
 
 -- an error, whatever the result, and one of a candidate that is full
 pub on_err_so : {T E P : Type 0} (r : Result T E) → P → OnErr r P
@@ -54,11 +54,7 @@ module _ (held : Bytes) where
   behind_header [] = append-nil header
   behind_header (r ∷ rs) = refl
 
-  -- a row's marks and its content, and what is behind it
-  abbrev pub laid : Option Row → Row → Bytes
-  laid before r = marks_before before r ++ (item_in held r).content
-
-  behind_row : (before : Option Row) (r : Row) (rs : List Row) → behind before (r ∷ rs) ≡ laid before r ++ behind (Some r) rs
+  behind_row : (before : Option Row) (r : Row) (rs : List Row) → behind before (r ∷ rs) ≡ laid held before r ++ behind (Some r) rs
   unfolding rendered_after
   behind_row None r rs = refl
   behind_row (Some p) r rs = sym (append_assoc (marks_before (Some p) r) (item_in held r).content (behind (Some r) rs))

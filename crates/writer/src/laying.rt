@@ -4,14 +4,17 @@ ghost use Rattle.std.specs.Option.{option_map};
 ghost use Rattle.label.specs.Bytes.{every};
 ghost use Rattle.label.specs.Limits.{longest};
 ghost use Rattle.label.specs.Rendered.{rendered};
-ghost use Rattle.label.specs.Writing.{rows_in, inside, item_in, items_in};
+ghost use Rattle.label.specs.Writing.{rows_in, inside, items_in};
 ghost use Rattle.given.specs.Given.{as_row};
-ghost use Rattle.writer.specs.Laying.{marks_before};
+ghost use Rattle.writer.specs.Laying.{marks_before, laid};
 
 use crate::marks::{between, ending_of};
 use arrayvec::{ArrayVec, CapacityError};
 use given::{Given, row_from};
 use label::{HEADER, LONGEST, ROW};
+
+// Room for as many bytes as a message has at most.
+pub(crate) type Candidate = ArrayVec<u8, LONGEST>;
 
 // What stands before a row: marks behind the row before it, and nothing before the first, which the header stands before.
 fn marks_before(before: Option<Given>, row: Given) -> &'static [u8]
@@ -28,11 +31,11 @@ fn put_row(
     held: &[u8],
     before: Option<Given>,
     row: Given,
-    out: &mut ArrayVec<u8, LONGEST>,
+    out: &mut Candidate,
 ) -> Result<(), CapacityError>
     requires { inside held.now (as_row row) ≡ true }
-    ensures ok { OnOk result (out.new.items ≡ out.old.items ++ (marks_before (option_map as_row before) (as_row row) ++ (item_in held.now (as_row row)).content)) }
-    ensures long { OnErr result (longest < length out.old.items + length (marks_before (option_map as_row before) (as_row row) ++ (item_in held.now (as_row row)).content)) }
+    ensures ok { OnOk result (out.new.items ≡ out.old.items ++ laid held.now (option_map as_row before) (as_row row)) }
+    ensures long { OnErr result (longest < length out.old.items + length (laid held.now (option_map as_row before) (as_row row))) }
 {
     out.try_extend_from_slice(marks_before(before, row))?;
     let start = row.start as usize;
@@ -41,11 +44,7 @@ fn put_row(
 }
 
 // Lays out the message of the rows, unless it is too long.
-pub(crate) fn lay_out(
-    held: &[u8],
-    rows: &[u32],
-    out: &mut ArrayVec<u8, LONGEST>,
-) -> Result<(), CapacityError>
+pub(crate) fn lay_out(held: &[u8], rows: &[u32], out: &mut Candidate) -> Result<(), CapacityError>
     requires lie { every (inside held.now) (rows_in rows.now) ≡ true }
     requires empty { out.old.items ≡ [] }
     ensures ok { OnOk result (out.new.items ≡ rendered (items_in held.now rows.now)) }

@@ -13,8 +13,8 @@ ghost use Rattle.label.specs.Writing.{rows_in, rows_stand, ordinals_in, items_in
 ghost use Rattle.given.specs.Given.{alike};
 ghost use Rattle.writer.specs.Laying.{Composes};
 
-use arrayvec::ArrayVec;
-use label::{Edition, LONGEST, ROW, WriteReason, Writing};
+use label::{Edition, ROW, WriteReason, Writing};
+use laying::Candidate;
 
 // Whether a message is read in an edition, and its rows have the kinds, formats and lengths of those given.
 fn same_rows(edition: Edition, m: &[u8], rows: &[u32]) -> bool
@@ -40,7 +40,7 @@ fn compose<'a>(
     edition: Edition,
     held: &[u8],
     rows: &[u32],
-    out: &'a mut ArrayVec<u8, LONGEST>,
+    out: &'a mut Candidate,
 ) -> Option<&'a [u8]>
     requires stand { rows_stand held.now rows.now ≡ true }
     requires empty { out.old.items ≡ [] }
@@ -71,7 +71,7 @@ pub fn write(edition: Edition, held: &[u8], rows: &[u32], output: &mut [u8]) -> 
     if !given::rows_stand(held, rows) {
         return Writing::Declined(WriteReason::BadRows);
     }
-    let mut candidate = ArrayVec::new();
+    let mut candidate = Candidate::new();
     let Some(message) = compose(edition, held, rows, &mut candidate) else {
         return Writing::Declined(WriteReason::NoSuchMessage);
     };

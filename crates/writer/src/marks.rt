@@ -52,20 +52,17 @@ fn before_value(format: u32) -> &'static [u8]
 fn is_value(row: Given) -> bool
     ensures { result ≡ eqb row.kind value_row }
 {
-    match RowKind::from(row.kind) {
-        RowKind::HeaderValue => true,
-        _ => false,
-    }
+    matches!(RowKind::from(row.kind), RowKind::HeaderValue)
 }
 
 // Whether a row stands in a segment.
 fn in_segment(row: Given) -> bool
     ensures { result ≡ leb tag_row row.kind && leb row.kind sub_element_row }
 {
-    match RowKind::from(row.kind) {
-        RowKind::Tag | RowKind::LaterElement | RowKind::FurtherSubElement => true,
-        _ => false,
-    }
+    matches!(
+        RowKind::from(row.kind),
+        RowKind::Tag | RowKind::LaterElement | RowKind::FurtherSubElement
+    )
 }
 
 // Behind an envelope's last row: FS ends a segment, RS the envelope.
