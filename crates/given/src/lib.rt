@@ -69,10 +69,10 @@ pub fn ordinals_counted(rows: &[u32]) -> bool
     let Some(first) = later.next() else {
         return true;
     };
-    let mut ordinal = 0;
     if first[4] != 0 {
         return false;
     }
+    let mut ordinal = 0;
     for row in later {
         // An indicator begins the next envelope, and no kind is below its own.
         ordinal += usize::from(row[0] < 2);
