@@ -1,98 +1,131 @@
--- The rows that are given, from an index on: one turn of a loop over them, and what it says that they stand.
+-- The rows that are given: one turn of a loop over them, whether a row stands at an index, and what it says that they stand.
 use Prim.Native.Nat.{ℕ, ◌+◌, ◌%◌, ◌/◌, ◌≤◌, ◌<◌}
 use mathlib.Core.Path.{◌≡◌, refl, sym, ap, ◌∙◌}
 use mathlib.Core.Bool.{Bool, true, false, ◌&&◌}
-use mathlib.Core.List.{List, [], ◌∷◌}
+use mathlib.Core.List.{List, [], ◌∷◌, ◌++◌}
 use native.Mathlib.Omega.{arith}
 use borrow.Author.Tests.{leb-true, le-leb, lt-leb, eqb-true, eq-eqb, ne_eqb}
-use lib.ListN.{length, get_or, drop, length-drop}
-use lib.Dec.{leb, eqb}
+use lib.ListN.{length, get_or}
+use lib.Dec.{leb, ltb, eqb}
 use Rattle.label.specs.Bytes.{Bytes, every}
 use Rattle.label.specs.Limits.{most_rows, row_width}
 use Rattle.label.specs.Layout.{Row}
 use Rattle.label.specs.Writing.{rows_in, ordinals_in, inside, rows_stand, same_ordinals}
 use Rattle.label.specs.Counting.{row_from, kinds_of, raised, counting_on, by_counting}
-use Rattle.label.proofs.Tests.{both, cond_yes, cond_no}
-use Rattle.leaves.proofs.Turns.{drop_step, four_there, drop_past, and_assoc, and_true}
-use Rattle.given.specs.Given.{Whole, no_row, row_or_none, ordinals_counted}
+use Rattle.label.proofs.Ordinals.{raised_by_test}
+use Rattle.label.proofs.Tests.{both, cond_yes}
+use Rattle.std.specs.Prelude.{Option, Some}
+use Rattle.std.specs.Int.{from_bool}
+use Rattle.std.specs.Option.{unwrap_or, option_map}
+use Rattle.walk.specs.declared.Cursor.{Cursor}
+use Rattle.walk.specs.declared.Stage.{Stage}
+use Rattle.walk.specs.declared.Stage.TheVariants.{Indicator, VersionValue, ReleaseValue, TypeValue, CompressionValue, CountValue, Piece, Tag, LaterElement, FurtherSubElement, Body}
+use Rattle.walk.specs.Cursors.{kind_of, row_of}
+use Rattle.given.specs.declared.Given.{Given}
+use Rattle.given.specs.Given.{Whole, no_row, row_at, row_or_none, as_row, ordinals_counted, alike_row}
 
-module _ (ns : List ℕ) (i : ℕ) where
-  -- a row's numbers all stand there, or not
-  pub row_there : i + row_width ≤ length ns → row_or_none ns i ≡ row_from ns i
-  row_there inside = cond_yes _ _ _ (le-leb (i + row_width) (length ns) inside)
+-- five numbers in front of others are a row and its ordinal
+pub rows_cut : (x rest : List ℕ) → length x ≡ row_width → rows_in (x ++ rest) ≡ row_from x 0 ∷ rows_in rest
+rows_cut [] rest five = absurd (omega arith)
+rows_cut (k ∷ []) rest five = absurd (omega arith)
+rows_cut (k ∷ (f ∷ [])) rest five = absurd (omega arith)
+rows_cut (k ∷ (f ∷ (s ∷ []))) rest five = absurd (omega arith)
+rows_cut (k ∷ (f ∷ (s ∷ (l ∷ [])))) rest five = absurd (omega arith)
+rows_cut (k ∷ (f ∷ (s ∷ (l ∷ (o ∷ []))))) rest five = refl
+rows_cut (k ∷ (f ∷ (s ∷ (l ∷ (o ∷ (n ∷ ns)))))) rest five = absurd (omega arith)
 
-  pub row_not_there : length ns < i + row_width → row_or_none ns i ≡ no_row
-  row_not_there outside = cond_no _ _ _ (lt-leb (i + row_width) (length ns) outside)
+ordinals_cut : (x rest : List ℕ) → length x ≡ row_width → ordinals_in (x ++ rest) ≡ get_or x 4 0 ∷ ordinals_in rest
+ordinals_cut [] rest five = absurd (omega arith)
+ordinals_cut (k ∷ []) rest five = absurd (omega arith)
+ordinals_cut (k ∷ (f ∷ [])) rest five = absurd (omega arith)
+ordinals_cut (k ∷ (f ∷ (s ∷ []))) rest five = absurd (omega arith)
+ordinals_cut (k ∷ (f ∷ (s ∷ (l ∷ [])))) rest five = absurd (omega arith)
+ordinals_cut (k ∷ (f ∷ (s ∷ (l ∷ (o ∷ []))))) rest five = refl
+ordinals_cut (k ∷ (f ∷ (s ∷ (l ∷ (o ∷ (n ∷ ns)))))) rest five = absurd (omega arith)
 
-  -- the numbers of a row, and what lies behind them
-  five_there : i + row_width ≤ length ns → drop i ns ≡ get_or ns i 0 ∷ get_or ns (i + 1) 0 ∷ get_or ns (i + 2) 0 ∷ get_or ns (i + 3) 0 ∷ get_or ns (i + 4) 0 ∷ drop (i + row_width) ns
-  five_there inside =
-      let five : i + 4 + 1 ≡ i + row_width = omega arith in
-      four_there ns i (omega arith)
-      ∙ ap (λ l. get_or ns i 0 ∷ get_or ns (i + 1) 0 ∷ get_or ns (i + 2) 0 ∷ get_or ns (i + 3) 0 ∷ l) (drop_step ns (i + 4) (omega arith) ∙ ap (λ n. get_or ns (i + 4) 0 ∷ drop n ns) five)
+-- fewer are none
+pub no_row_left : (ns : List ℕ) → length ns < row_width → rows_in ns ≡ []
+no_row_left [] short = refl
+no_row_left (k ∷ []) short = refl
+no_row_left (k ∷ (f ∷ [])) short = refl
+no_row_left (k ∷ (f ∷ (s ∷ []))) short = refl
+no_row_left (k ∷ (f ∷ (s ∷ (l ∷ [])))) short = refl
+no_row_left (k ∷ (f ∷ (s ∷ (l ∷ (o ∷ ns))))) short = absurd (omega arith)
 
-  pub rows_step : i + row_width ≤ length ns → rows_in (drop i ns) ≡ row_from ns i ∷ rows_in (drop (i + row_width) ns)
-  rows_step inside = ap rows_in (five_there inside)
+no_ordinal_left : (ns : List ℕ) → length ns < row_width → ordinals_in ns ≡ []
+no_ordinal_left [] short = refl
+no_ordinal_left (k ∷ []) short = refl
+no_ordinal_left (k ∷ (f ∷ [])) short = refl
+no_ordinal_left (k ∷ (f ∷ (s ∷ []))) short = refl
+no_ordinal_left (k ∷ (f ∷ (s ∷ (l ∷ [])))) short = refl
+no_ordinal_left (k ∷ (f ∷ (s ∷ (l ∷ (o ∷ ns))))) short = absurd (omega arith)
 
-  ordinals_step : i + row_width ≤ length ns → ordinals_in (drop i ns) ≡ get_or ns (i + 4) 0 ∷ ordinals_in (drop (i + row_width) ns)
-  ordinals_step inside = ap ordinals_in (five_there inside)
+-- a row at an index, or none; and a row of numbers that are just one
+module _ (ns : List ℕ) (at : ℕ) where
+  pub row_at_some : at + row_width ≤ length ns → row_at ns at ≡ Some (row_from ns at)
+  row_at_some room = cond_yes _ _ _ (le-leb (at + row_width) (length ns) room)
 
-  pub rows_past : length ns ≤ i → rows_in (drop i ns) ≡ []
-  rows_past past = ap rows_in (drop_past ns i past)
+pub row_there : (ns : List ℕ) (at : ℕ) → at + row_width ≤ length ns → row_or_none ns at ≡ row_from ns at
+row_there ns at room = ap (λ (o : Option Row). unwrap_or o no_row) (row_at_some ns at room)
 
-  -- whole rows: behind each there is another, or the end
-  pub next_whole : Whole ns → i % row_width ≡ 0 → i < length ns → i + row_width ≤ length ns
-  next_whole whole at inside = omega arith
+pub row_here : (x : List ℕ) (o : Option Given) (row : Given) → length x ≡ row_width → option_map as_row o ≡ row_at x 0 → o ≡ Some row → as_row row ≡ row_from x 0
+row_here x o row five is some =
+    let same : Some (as_row row) ≡ Some (row_from x 0) = sym (ap (option_map as_row) some) ∙ is ∙ row_at_some x 0 (omega arith) in
+    ap (λ (o : Option Row). unwrap_or o no_row) same
 
--- Ordinals: the first row's and, one turn of a loop, the next
+-- no cursor's row is like none
+pub unlike_none : (c : Cursor) → false ≡ alike_row (row_of c) no_row
+unfolding alike_row
+unlike_none c = ap (λ t. t && eqb c.format 0 && eqb c.length 0) (some_kind c.stage)
+  where
+    some_kind : (s : Stage) → false ≡ eqb (kind_of s) 0
+    some_kind Indicator = refl
+    some_kind VersionValue = refl
+    some_kind ReleaseValue = refl
+    some_kind TypeValue = refl
+    some_kind CompressionValue = refl
+    some_kind CountValue = refl
+    some_kind Piece = refl
+    some_kind Tag = refl
+    some_kind LaterElement = refl
+    some_kind FurtherSubElement = refl
+    some_kind Body = refl
 
--- what counting on says of the rows from an index on, behind a row with an ordinal
-abbrev pub counted_from : List ℕ → ℕ → ℕ → Bool
-counted_from ns i ordinal = same_ordinals (counting_on ordinal (kinds_of (rows_in (drop i ns)))) (ordinals_in (drop i ns))
+-- Stretches: a row's does not leave the data, or does
+module _ (held : Bytes) (x rest : List ℕ) (row : Row) (five : length x ≡ row_width) (is : row ≡ row_from x 0) where
+  all_cut : every (inside held) (rows_in (x ++ rest)) ≡ (inside held row && every (inside held) (rows_in rest))
+  all_cut = ap (every (inside held)) (rows_cut x rest five) ∙ ap (λ r. inside held r && every (inside held) (rows_in rest)) (sym is)
 
-module _ (ns : List ℕ) where
-  no_row_left : (ns : List ℕ) → length ns < row_width → rows_in ns ≡ []
-  no_row_left [] short = refl
-  no_row_left (k ∷ []) short = refl
-  no_row_left (k ∷ (f ∷ [])) short = refl
-  no_row_left (k ∷ (f ∷ (s ∷ []))) short = refl
-  no_row_left (k ∷ (f ∷ (s ∷ (l ∷ [])))) short = refl
-  no_row_left (k ∷ (f ∷ (s ∷ (l ∷ (o ∷ ns))))) short = absurd (omega arith)
+  pub lies_inside : row.start + row.length ≤ length held → every (inside held) (rows_in (x ++ rest)) ≡ every (inside held) (rows_in rest)
+  unfolding inside
+  lies_inside lies = all_cut ∙ ap (λ t. t && every (inside held) (rows_in rest)) (le-leb (row.start + row.length) (length held) lies)
 
-  no_ordinal_left : (ns : List ℕ) → length ns < row_width → ordinals_in ns ≡ []
-  no_ordinal_left [] short = refl
-  no_ordinal_left (k ∷ []) short = refl
-  no_ordinal_left (k ∷ (f ∷ [])) short = refl
-  no_ordinal_left (k ∷ (f ∷ (s ∷ []))) short = refl
-  no_ordinal_left (k ∷ (f ∷ (s ∷ (l ∷ [])))) short = refl
-  no_ordinal_left (k ∷ (f ∷ (s ∷ (l ∷ (o ∷ ns))))) short = absurd (omega arith)
+  pub lies_outside : length held < row.start + row.length → every (inside held) (rows_in (x ++ rest)) ≡ false
+  unfolding inside
+  lies_outside leaves = all_cut ∙ ap (λ t. t && every (inside held) (rows_in rest)) (lt-leb (row.start + row.length) (length held) leaves)
 
-  pub none_counted : length ns < row_width → true ≡ ordinals_counted ns
-  none_counted short = sym (λ j. same_ordinals (by_counting (kinds_of (no_row_left ns short j))) (no_ordinal_left ns short j))
+-- Ordinals
 
-  pub counted_first : row_width ≤ length ns → (eqb 0 (get_or ns 4 0) && counted_from ns row_width 0) ≡ ordinals_counted ns
-  counted_first some = sym (λ j. same_ordinals (by_counting (kinds_of (rows_step ns 0 some j))) (ordinals_step ns 0 some j))
+-- what counting on says of rows, behind a row with an ordinal
+abbrev pub counted_from : List ℕ → ℕ → Bool
+counted_from ns ordinal = same_ordinals (counting_on ordinal (kinds_of (rows_in ns))) (ordinals_in ns)
 
-  module _ (ok : Bool) (i ordinal : ℕ) where
-    pub counted_turn : i + row_width ≤ length ns → (o : ℕ) → o ≡ raised ordinal (get_or ns i 0)
-        → ((ok && eqb o (get_or ns (i + 4) 0)) && counted_from ns (i + row_width) o) ≡ (ok && counted_from ns i ordinal)
-    counted_turn inside o is =
-        sym
-        (ap (λ t. ok && t) (λ j. same_ordinals (counting_on ordinal (kinds_of (rows_step ns i inside j))) (ordinals_step ns i inside j))
-        ∙ ap (λ n. ok && (eqb n (get_or ns (i + 4) 0) && counted_from ns (i + row_width) n)) (sym is)
-        ∙ and_assoc ok (eqb o (get_or ns (i + 4) 0)) (counted_from ns (i + row_width) o))
+module _ (x rest : List ℕ) (five : length x ≡ row_width) where
+  pub counted_first : ordinals_counted (x ++ rest) ≡ (eqb 0 (get_or x 4 0) && counted_from rest 0)
+  counted_first = λ j. same_ordinals (by_counting (kinds_of (rows_cut x rest five j))) (ordinals_cut x rest five j)
 
-    pub counted_end : i ≤ length ns → length ns < i + row_width → ok ≡ (ok && counted_from ns i ordinal)
-    counted_end up_to short =
-        let few : length (drop i ns) < row_width = omega (arith, length-drop i ns) in
-        sym (ap (λ t. ok && t) (λ j. same_ordinals (counting_on ordinal (kinds_of (no_row_left (drop i ns) few j))) (no_ordinal_left (drop i ns) few j)) ∙ and_true ok)
+  module _ (ordinal now test : ℕ) (by : test ≡ from_bool (ltb (get_or x 0 0) 2)) (is : now ≡ ordinal + test) where
+    pub counted_next : counted_from (x ++ rest) ordinal ≡ (eqb now (get_or x 4 0) && counted_from rest now)
+    counted_next =
+        let same : now ≡ raised ordinal (get_or x 0 0) = is ∙ ap (λ n. ordinal + n) by ∙ raised_by_test ordinal (get_or x 0 0) in
+        (λ j. same_ordinals (counting_on ordinal (kinds_of (rows_cut x rest five j))) (ordinals_cut x rest five j))
+        ∙ ap (λ n. eqb n (get_or x 4 0) && counted_from rest n) (sym same)
 
-module _ (test : Row → Bool) (ns : List ℕ) (ok : Bool) (i : ℕ) where
-  pub all_turn : i + row_width ≤ length ns → ((ok && test (row_from ns i)) && every test (rows_in (drop (i + row_width) ns))) ≡ (ok && every test (rows_in (drop i ns)))
-  all_turn inside = sym (ap (λ l. ok && every test l) (rows_step ns i inside) ∙ and_assoc ok (test (row_from ns i)) (every test (rows_in (drop (i + row_width) ns))))
+pub counted_none : (ns : List ℕ) → length ns < row_width → ordinals_counted ns ≡ true
+counted_none ns short = λ j. same_ordinals (by_counting (kinds_of (no_row_left ns short j))) (no_ordinal_left ns short j)
 
-  pub all_end : length ns ≤ i → ok ≡ (ok && every test (rows_in (drop i ns)))
-  all_end past = sym (ap (λ l. ok && every test l) (rows_past ns i past) ∙ and_true ok)
+pub counted_end : (ns : List ℕ) (ordinal : ℕ) → length ns < row_width → counted_from ns ordinal ≡ true
+counted_end ns ordinal short = λ j. same_ordinals (counting_on ordinal (kinds_of (no_row_left ns short j))) (no_ordinal_left ns short j)
 
 -- what it says of rows that they stand
 pub record StandsSo (held : Bytes) (ns : List ℕ) : Type 0 where

@@ -1,5 +1,6 @@
 -- The rows that are given, by the index of their first number, and when two rows are alike.
-use Rattle.std.specs.Prelude.{ℕ, ◌+◌, ◌%◌, ◌≡◌, Bool, true, false, ◌&&◌, cond, List, [], ◌∷◌, length, leb, eqb}
+use Rattle.std.specs.Prelude.{ℕ, ◌+◌, ◌%◌, ◌≡◌, Bool, true, false, ◌&&◌, cond, List, [], ◌∷◌, length, leb, eqb, Option, Some, None}
+use Rattle.std.specs.Option.{unwrap_or}
 use Rattle.label.specs.Limits.{row_width}
 use Rattle.label.specs.Layout.{Row}
 use Rattle.label.specs.Writing.{rows_in, ordinals_in, same_ordinals}
@@ -14,9 +15,13 @@ Whole ns = length ns % row_width ≡ 0
 abbrev pub no_row : Row
 no_row = record { kind = 0; format = 0; start = 0; length = 0 }
 
--- the row from an index on where its numbers stand there, else the row of zeros
+-- the row from an index on, where its numbers stand there
+abbrev pub row_at : List ℕ → ℕ → Option Row
+row_at ns at = cond (leb (at + row_width) (length ns)) (Some (row_from ns at)) None
+
+-- and else the row of zeros
 abbrev pub row_or_none : List ℕ → ℕ → Row
-row_or_none ns at = cond (leb (at + row_width) (length ns)) (row_from ns at) no_row
+row_or_none ns at = unwrap_or (row_at ns at) no_row
 
 -- the row of these numbers
 abbrev pub as_row : Given → Row

@@ -4,10 +4,13 @@ use Prim.Native.Nat.{ℕ, zero, suc, ◌+◌, ◌≤◌, ◌<◌}
 use mathlib.Core.Path.{◌≡◌, refl, sym, ap, ◌∙◌}
 use mathlib.Core.Bool.{Bool, true, false, not, cond, false≢true}
 use mathlib.Core.List.{List, [], ◌∷◌, ◌++◌, map, append_assoc, append-nil, map-append}
+use native.Mathlib.Nat.{add-zero}
 use native.Mathlib.Omega.{arith}
 use native.Mathlib.Numerals.{add-one}
 use lib.ListN.{length, get_or, drop, length-map, length-drop}
-use lib.Dec.{leb}
+use lib.Dec.{leb, ltb}
+use borrow.Author.Tests.{leb-true, leb-false, lt-ltb, le-ltb}
+use Rattle.std.specs.Int.{from_bool}
 use Rattle.label.specs.Bytes.{Bytes, EOT, FS, GS, RS, US, every}
 use Rattle.label.specs.Layout.{Item, Part, mark, item, marks, Row, items_of, rows_from, separated, further, ended}
 use Rattle.label.specs.Segments.{Element, Segment}
@@ -209,6 +212,14 @@ raised_small n k i small = by (leb k indicator_row)
     by : (t : Bool) → cond t (suc n) n ≤ i + 1
     by true = omega arith
     by false = omega arith
+
+-- counting on as code does, by a test of the kind
+pub raised_by_test : (n k : ℕ) → n + from_bool (ltb k 2) ≡ raised n k
+raised_by_test n k = by (leb k indicator_row) refl
+  where
+    by : (t : Bool) → leb k indicator_row ≡ t → n + from_bool (ltb k 2) ≡ cond t (suc n) n
+    by true is = ap (λ t. n + from_bool t) (lt-ltb k 2 (omega (arith, leb-true k indicator_row is))) ∙ add-one n
+    by false is = ap (λ t. n + from_bool t) (le-ltb k 2 (omega (arith, leb-false k indicator_row is))) ∙ add-zero n
 
 pub counted_small : (ks : List ℕ) (i : ℕ) → i < length ks → get_or (by_counting ks) i 0 ≤ i
 counted_small ks zero less = omega (arith, counted_first ks)

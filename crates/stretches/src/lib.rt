@@ -23,10 +23,8 @@ fn cursor_at(m: &[u8], row: usize) -> Cursor
     ensures { LiesWhere m.now row result.start result.length }
 {
     let mut c = first(m);
-    let mut i = 0;
-    while i < row {
+    for _step in 0..row {
         c = next(m, c);
-        i += 1;
     }
     c
 }

@@ -1,6 +1,6 @@
 -- Why kinds, formats and lengths are compared, and no content: items that are alike in these, and are rendered to the same bytes, are the same. And the
 -- loop that compares a message's rows with those given.
-use Prim.Native.Nat.{ℕ, suc, ◌+◌, ◌/◌, ◌%◌, ◌≤◌, ◌<◌}
+use Prim.Native.Nat.{ℕ, suc, ◌+◌, ◌/◌, ◌<◌}
 use mathlib.Core.Path.{◌≡◌, refl, sym, ap, ◌∙◌}
 use mathlib.Core.Bool.{Bool, true, false, ◌&&◌, false≢true}
 use mathlib.Core.List.{List, [], ◌∷◌, ◌++◌, map, append_cancel_left}
@@ -23,11 +23,9 @@ use Rattle.label.proofs.Tests.{both, and_both}
 use Rattle.label.proofs.RowItems.{same_items_lem, items_same}
 use Rattle.walk.specs.declared.Cursor.{Cursor}
 use Rattle.walk.specs.Cursors.{row_of, next_cursor}
-use Rattle.leaves.proofs.Turns.{drop_past}
 use Rattle.walk.proofs.Walks.{Yields}
-use Rattle.walk.proofs.Standing.{rows_here, yields_next}
-use Rattle.given.specs.Given.{Whole, row_or_none, alike_row, alike}
-use Rattle.given.proofs.GivenLaws.{row_there, rows_step, rows_past, next_whole}
+use Rattle.given.specs.Given.{row_or_none, alike_row, alike}
+use Rattle.given.proofs.GivenLaws.{row_there, rows_cut, no_row_left}
 
 -- Items
 
@@ -151,46 +149,64 @@ not_as_many (r ∷ rs) [] other = refl
 not_as_many (r ∷ rs) (s ∷ ss) other = and_none (alike_row r s) (not_as_many rs ss (λ same. other (ap suc same)))
 
 -- The loop: the cursor yields the rows that are left, and whether they are alike is whether all are
-pub record Compared (m : Bytes) (all : List Row) (ns : List ℕ) (c : Cursor) (i : ℕ) : Type 0 where
-  pub up_to : i ≤ length ns
-  pub even : i % row_width ≡ 0
-  pub counted : length all ≡ length ns / row_width
-  pub yields : Yields m c (drop (i / row_width) all)
-  pub goes : alike (drop (i / row_width) all) (rows_in (drop i ns)) ≡ alike all (rows_in ns)
+pub record Compared (m : Bytes) (all : List Row) (ns : List ℕ) (c : Cursor) (left : List ℕ) : Type 0 where
+  pub rows : List Row
+  pub counted : length rows ≡ length (rows_in left)
+  pub yields : Yields m c rows
+  pub goes : alike rows (rows_in left) ≡ alike all (rows_in ns)
 
-module _ (m : Bytes) (all : List Row) (ns : List ℕ) where
-  pub compared_first : (c : Cursor) → Yields m c all → length all ≡ length ns / row_width → Compared m all ns c 0
-  compared_first c yields counted = record { up_to = omega arith; even = refl; counted = counted; yields = yields; goes = refl }
+module _ (m : Bytes) (all : List Row) (ns : List ℕ) (c : Cursor) where
+  pub compared_first : (left : List ℕ) → left ≡ ns → Yields m c all → length all ≡ length ns / row_width → Compared m all ns c left
+  compared_first left is yields counted = record {
+    rows = all;
+    counted = counted ∙ sym (rows_counted ns) ∙ ap (λ l. length (rows_in l)) (sym is);
+    yields = yields;
+    goes = ap (λ l. alike all (rows_in l)) is;
+  }
 
-  module _ (c : Cursor) (i : ℕ) (whole : Whole ns) (at : Compared m all ns c i) (more : i < length ns) where
-    room : i + row_width ≤ length ns
-    room = next_whole ns i whole at.even more
-
-    row_more : i / row_width < length all
-    row_more = omega (arith, room)
+  module _ (left x rest : List ℕ) (cut : left ≡ x ++ rest) (five : length x ≡ row_width) (at : Compared m all ns c left) where
+    split : rows_in left ≡ row_or_none x 0 ∷ rows_in rest
+    split = ap rows_in cut ∙ rows_cut x rest five ∙ ap (λ r. r ∷ rows_in rest) (sym (row_there x 0 (omega arith)))
 
     -- the row that the cursor stands at, and the others
-    goes_here : (alike_row (row_of c) (row_or_none ns i) && alike (drop (i / row_width + 1) all) (rows_in (drop (i + row_width) ns))) ≡ alike all (rows_in ns)
-    goes_here =
-        ap (λ row. alike_row (row_of c) row && alike (drop (i / row_width + 1) all) (rows_in (drop (i + row_width) ns))) (row_there ns i room)
-        ∙ sym (λ t. alike (rows_here m all c (i / row_width) at.yields row_more t) (rows_step ns i room t)) ∙ at.goes
+    pub record Here : Type 0 where
+      pub others : List Row
+      pub many : length others ≡ length (rows_in rest)
+      pub next : Yields m (next_cursor m c) others
+      pub goes : (alike_row (row_of c) (row_or_none x 0) && alike others (rows_in rest)) ≡ alike all (rows_in ns)
 
-    pub compared_differs : alike_row (row_of c) (row_or_none ns i) ≡ false → false ≡ alike all (rows_in ns)
-    compared_differs differs = rw differs at goes_here
-
-    pub compared_next : alike_row (row_of c) (row_or_none ns i) ≡ true → Compared m all ns (next_cursor m c) (i + row_width)
-    compared_next same =
-        let next : i / row_width + 1 ≡ (i + row_width) / row_width = omega arith in
-        record {
-          up_to = room;
-          even = omega (arith, at.even);
-          counted = at.counted;
-          yields = rw next at (yields_next m all c (i / row_width) at.yields row_more);
-          goes = rw (same, next) at goes_here;
+    here : Here
+    here = by at.rows (at.counted ∙ ap length split) at.yields (sym (ap (alike at.rows) split) ∙ at.goes)
+      where
+        by : (rows : List Row) → length rows ≡ suc (length (rows_in rest)) → Yields m c rows → alike rows (row_or_none x 0 ∷ rows_in rest) ≡ alike all (rows_in ns) → Here
+        by [] many yields goes = absurd (omega arith)
+        by (r ∷ rows) many yields goes = record {
+          others = rows;
+          many = omega arith;
+          next = yields.1;
+          goes = ap (λ r. alike_row r (row_or_none x 0) && alike rows (rows_in rest)) yields.0 ∙ goes;
         }
 
-  pub compared_last : (c : Cursor) (i : ℕ) → Compared m all ns c i → length ns ≤ i → true ≡ alike all (rows_in ns)
-  compared_last c i at past = sym (λ t. alike (drop_past all (i / row_width) (omega arith) t) (rows_past ns i past t)) ∙ at.goes
+    pub compared_differs : alike_row (row_of c) (row_or_none x 0) ≡ false → false ≡ alike all (rows_in ns)
+    compared_differs differs = ap (λ t. t && alike here.others (rows_in rest)) (sym differs) ∙ here.goes
+
+    pub compared_next : alike_row (row_of c) (row_or_none x 0) ≡ true → Compared m all ns (next_cursor m c) rest
+    compared_next same = record {
+      rows = here.others;
+      counted = here.many;
+      yields = here.next;
+      goes = ap (λ t. t && alike here.others (rows_in rest)) (sym same) ∙ here.goes;
+    }
+
+  pub compared_last : (left : List ℕ) → Compared m all ns c left → length left < row_width → true ≡ alike all (rows_in ns)
+  compared_last left at short = by at.rows (at.counted ∙ ap length none) (sym (ap (alike at.rows) none) ∙ at.goes)
+    where
+      none : rows_in left ≡ []
+      none = no_row_left left short
+
+      by : (rows : List Row) → length rows ≡ 0 → alike rows [] ≡ alike all (rows_in ns) → true ≡ alike all (rows_in ns)
+      by [] many goes = goes
+      by (r ∷ rows) many goes = absurd (omega arith)
 
 -- in an edition the message has as many rows as are given
 abbrev pub AsMany : Edition → Bytes → List ℕ → Type 0

@@ -1,12 +1,13 @@
 -- From what is laid out and compared to what is composed, and from that to the answer and the output.
 use Rattle.std.specs.Prelude.{Err, Ok, None, Option, Some}
 use Prim.Native.Nat.{ℕ, ◌≤◌, ◌<◌}
-use mathlib.Core.Path.{◌≡◌, refl, sym, ap, ◌∙◌, subst}
+use mathlib.Core.Path.{◌≡◌, refl, sym, ap, ◌∙◌}
 use mathlib.Core.Bool.{Bool, true, false, cond}
-use mathlib.Core.List.{List, [], ◌∷◌, ◌++◌, map, append-nil}
+use mathlib.Core.List.{List, [], ◌∷◌, ◌++◌, map}
 use native.Mathlib.Omega.{arith}
 use borrow.Author.Tests.{lt-ltb, le-ltb}
-use lib.ListN.{length, take, drop, length-take}
+use lib.Dec.{eqb}
+use lib.ListN.{length, drop}
 use Rattle.label.specs.declared.WriteReason.{WriteReason}
 use Rattle.label.specs.declared.WriteReason.TheVariants.{BadRows, NoSuchMessage, NoOutputRoom}
 use Rattle.label.specs.Bytes.{Bytes}
@@ -25,7 +26,6 @@ use Rattle.label.proofs.Rendering.{rendered_good}
 use Rattle.label.proofs.Composing.{composed_good, composed_not_counted, items_decide, bad_rows, rows_fit, answer_numbers, output_bytes}
 use Rattle.given.specs.Given.{ordinals_counted, alike}
 use Rattle.given.proofs.GivenLaws.{stands_so}
-use Rattle.writer.specs.Laying.{Laying, Composes}
 use Rattle.writer.proofs.Comparing.{same_as_like, rows_like, rows_counted, not_as_many}
 
 from_nothing : (edition : Edition) → composed edition [] [] ≡ None
@@ -36,6 +36,10 @@ rendered_some : (is : List Item) → 0 < length (rendered is)
 unfolding rendered
 rendered_some [] = omega arith
 rendered_some (i ∷ is) = omega arith
+
+pub some_numbers : (ns : List ℕ) → eqb (length ns) 0 ≡ false → 0 < length ns
+some_numbers [] is = cc
+some_numbers (n ∷ ns) is = omega arith
 
 module _ (edition : Edition) (held : Bytes) (ns : List ℕ) where
   abbrev items : List Item
@@ -74,15 +78,12 @@ module _ (edition : Edition) (held : Bytes) (ns : List ℕ) where
           ap (λ t. cond t (Some laid) None)
           (not_as_many [] (rows_in ns) (λ same. omega (arith, rows_counted ns, (stands_so held ns stand).whole)))
 
-  laid_there : (r : ℕ) (out : Bytes) → Laying laid [] r out → r ≤ length out → take r out ≡ laid
-  laid_there r out laying inside = sym (append-nil (take r out)) ∙ laying.fits inside
-
-  -- so by the comparison with what a buffer's first bytes are read as, where those are what is laid out
-  composed_compared : rows_stand held ns ≡ true → ordinals_counted ns ≡ true → 0 < length ns → (r : ℕ) (out : Bytes) → Laying laid [] r out → r ≤ length out
-      → (t : Bool) → t ≡ alike (rows_read (reading edition (take r out))) (rows_in ns) → composed edition items ordinals ≡ cond t (Some laid) None
-  composed_compared stand true_ones more r out laying inside t says =
+  -- so by the comparison with what is read in what is laid out
+  composed_compared : rows_stand held ns ≡ true → ordinals_counted ns ≡ true → 0 < length ns → (out : Bytes) → out ≡ laid
+      → (t : Bool) → t ≡ alike (rows_read (reading edition out)) (rows_in ns) → composed edition items ordinals ≡ cond t (Some laid) None
+  composed_compared stand true_ones more out is t says =
       composed_by_rows stand true_ones more
-      ∙ ap (λ t. cond t (Some laid) None) (sym (says ∙ ap (λ m. alike (rows_read (reading edition m)) (rows_in ns)) (laid_there r out laying inside)))
+      ∙ ap (λ t. cond t (Some laid) None) (sym (says ∙ ap (λ m. alike (rows_read (reading edition m)) (rows_in ns)) is))
 
   -- what is too long is not composed
   pub composed_not_long : longest < length laid → composed edition items ordinals ≡ None
@@ -103,34 +104,13 @@ module _ (edition : Edition) (held : Bytes) (ns : List ℕ) where
       by [] empty = from_nothing edition
       by (n ∷ ns) empty = absurd (omega arith)
 
-  -- what is composed is not empty
-  composed_some : (m : Bytes) → composed edition items ordinals ≡ Some m → 0 < length m
-  composed_some m is =
-      let with = composed_good edition items ordinals m is in
-      let renders = rendered_good edition m with.envelopes with.good in
-      omega (arith, ap length renders, rendered_some (items_of (message_parts with.envelopes)))
-
-  pub composes_none : (r : ℕ) (out : Bytes) → composed edition items ordinals ≡ None → r ≡ 0 → Composes (composed edition items ordinals) r out
-  composes_none r out is zero = subst (λ (c : Option Bytes). Composes c r out) (sym is) zero
-
   -- by the comparison: what is laid out, or nothing
-  pub composes_compared : rows_stand held ns ≡ true → ordinals_counted ns ≡ true → 0 < length ns → (r : ℕ) (out : Bytes) → Laying laid [] r out → r ≤ length out
-      → (t : Bool) → t ≡ alike (rows_read (reading edition (take r out))) (rows_in ns) → (u : Bool) → t ≡ u → Composes (composed edition items ordinals) (cond u r 0) out
-  composes_compared stand true_ones more r out laying inside t says u same = by u (composed_compared stand true_ones more r out laying inside u (sym same ∙ says))
-    where
-      by : (u : Bool) → composed edition items ordinals ≡ cond u (Some laid) None → Composes (composed edition items ordinals) (cond u r 0) out
-      by true is =
-          let there = laid_there r out laying inside in
-          subst (λ (c : Option Bytes). Composes c r out) (sym is) (omega (arith, ap length there, length-take r out), there)
-      by false is = composes_none 0 out is refl
+  module _ (stand : rows_stand held ns ≡ true) (true_ones : ordinals_counted ns ≡ true) (more : 0 < length ns) (out : Bytes) (is : out ≡ laid) where
+    pub composes_same : true ≡ alike (rows_read (reading edition out)) (rows_in ns) → Some out ≡ composed edition items ordinals
+    composes_same says = ap Some is ∙ sym (composed_compared stand true_ones more out is true says)
 
-  -- what is composed lies in the buffer
-  pub composes_inside : (r : ℕ) (out : Bytes) → Composes (composed edition items ordinals) r out → r ≤ length out
-  composes_inside r out composes = by (composed edition items ordinals) composes
-    where
-      by : (c : Option Bytes) → Composes c r out → r ≤ length out
-      by None so = omega arith
-      by (Some m) so = omega (arith, so.0, ap length so.1, length-take r out)
+    pub composes_other : false ≡ alike (rows_read (reading edition out)) (rows_in ns) → None ≡ composed edition items ordinals
+    composes_other says = sym (composed_compared stand true_ones more out is false says)
 
   -- an answer, and the output afterwards, as the definitions have them
   pub record Answers (output out : Bytes) (a : Writing) : Type 0 where
@@ -147,34 +127,22 @@ module _ (edition : Edition) (held : Bytes) (ns : List ℕ) where
     pub answers_bad_rows : rows_stand held ns ≡ false → Answers output output (Err BadRows)
     answers_bad_rows fall = declines output BadRows (bad_rows edition held ns (length output) fall)
 
-    module _ (stand : rows_stand held ns ≡ true) (r : ℕ) (candidate : Bytes) (composes : Composes (composed edition items ordinals) r candidate) where
-      pub answers_none : r ≡ 0 → Answers output output (Err NoSuchMessage)
-      answers_none zero = by (composed edition items ordinals) refl composes
-        where
-          by : (c : Option Bytes) → composed edition items ordinals ≡ c → Composes c r candidate → Answers output output (Err NoSuchMessage)
-          by None is so = declines output NoSuchMessage (rows_fit edition held ns (length output) None stand is)
-          by (Some m) is so = absurd (omega (arith, so.0, composed_some m is))
+    module _ (stand : rows_stand held ns ≡ true) where
+      pub answers_none : None ≡ composed edition items ordinals → Answers output output (Err NoSuchMessage)
+      answers_none none = declines output NoSuchMessage (rows_fit edition held ns (length output) None stand (sym none))
 
-      pub answers_no_room : (r ≡ 0 → ⊥) → length output < r → Answers output output (Err NoOutputRoom)
-      answers_no_room more short = by (composed edition items ordinals) refl composes
-        where
-          by : (c : Option Bytes) → composed edition items ordinals ≡ c → Composes c r candidate → Answers output output (Err NoOutputRoom)
-          by None is so = absurd (more so)
-          by (Some m) is so =
-              declines output NoOutputRoom
-              (rows_fit edition held ns (length output) (Some m) stand is
-              ∙ ap (λ t. cond t (declined NoOutputRoom) (written m)) (lt-ltb (length output) (length m) (omega (arith, so.0))))
+      module _ (message : Bytes) (some : Some message ≡ composed edition items ordinals) where
+        pub answers_no_room : length output < length message → Answers output output (Err NoOutputRoom)
+        answers_no_room short =
+            declines output NoOutputRoom
+            (rows_fit edition held ns (length output) (Some message) stand (sym some)
+            ∙ ap (λ t. cond t (declined NoOutputRoom) (written message)) (lt-ltb (length output) (length message) short))
 
-      pub answers_written : (r ≡ 0 → ⊥) → r ≤ length output → (out : Bytes) → out ≡ take r candidate ++ drop r output → Answers output out (Ok r)
-      answers_written more room out is_out = by (composed edition items ordinals) refl composes
-        where
-          by : (c : Option Bytes) → composed edition items ordinals ≡ c → Composes c r candidate → Answers output out (Ok r)
-          by None is so = absurd (more so)
-          by (Some m) is so =
-              let says = rows_fit edition held ns (length output) (Some m) stand is
-              ∙ ap (λ t. cond t (declined NoOutputRoom) (written m)) (le-ltb (length output) (length m) (omega (arith, so.0))) in
-              record {
-                answer = ap (λ n. 0 ∷ n ∷ []) so.0 ∙ sym (answer_numbers edition held ns (length output) (written m) says);
-                bytes = is_out ∙ ap (λ l. l ++ drop r output) so.1 ∙ ap (λ n. m ++ drop n output) so.0
-                    ∙ sym (output_bytes edition held ns output (written m) says);
-              }
+        pub answers_written : length message ≤ length output → (out : Bytes) → out ≡ message ++ drop (length message) output → Answers output out (Ok (length message))
+        answers_written room out is_out =
+            let says = rows_fit edition held ns (length output) (Some message) stand (sym some)
+            ∙ ap (λ t. cond t (declined NoOutputRoom) (written message)) (le-ltb (length output) (length message) room) in
+            record {
+              answer = sym (answer_numbers edition held ns (length output) (written message) says);
+              bytes = is_out ∙ sym (output_bytes edition held ns output (written message) says);
+            }

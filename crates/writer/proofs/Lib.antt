@@ -1,4 +1,3 @@
-pub mod MarkLaws
 pub mod LayingLaws
 pub mod Comparing
 pub mod Composed

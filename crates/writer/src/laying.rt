@@ -1,97 +1,64 @@
-// Laying a message out in a buffer: bytes are put one behind the other, and an offset outside the buffer says that there was
-// no room for them.
-ghost use Rattle.std.specs.Prelude.{◌<◌, ◌≡◌, [], ◌∷◌, ◌++◌, length};
+// Laying a message out: bytes are put one behind the other, as long as there is room for them.
+ghost use Rattle.std.specs.Prelude.{◌<◌, ◌+◌, ◌≡◌, true, [], ◌++◌, length, OnOk, OnErr};
+ghost use Rattle.std.specs.Option.{option_map};
+ghost use Rattle.label.specs.Bytes.{every};
 ghost use Rattle.label.specs.Limits.{longest};
 ghost use Rattle.label.specs.Rendered.{rendered};
-ghost use Rattle.label.specs.Writing.{item_in, items_in};
-ghost use Rattle.label.specs.Counting.{row_from};
-ghost use Rattle.writer.specs.Marks.{Few, marks_of};
-ghost use Rattle.writer.specs.Laying.{RowAt, Put, Laying, marks_before, Ready, Buffered};
+ghost use Rattle.label.specs.Writing.{rows_in, inside, items_in};
+ghost use Rattle.given.specs.Given.{as_row};
+ghost use Rattle.writer.specs.Laying.{marks_before, laid};
 
-use crate::marks::{Marks, between, ending_of, heading};
-use given::row_from;
-use label::ROW;
+use crate::marks::{between, ending_of};
+use arrayvec::{ArrayVec, CapacityError};
+use given::{Given, row_from};
+use label::{HEADER, LONGEST, ROW};
 
-// Puts bytes into a buffer from an offset on, and answers the offset behind them.
-fn put(out: &mut [u8], at: usize, new: &[u8]) -> usize
-    requires { length out.old ≡ longest }
-    ensures { Put out.old at new.now out.new result }
+// Room for as many bytes as a message has at most.
+pub(crate) type Candidate = ArrayVec<u8, LONGEST>;
+
+// What stands before a row: marks behind the row before it, and nothing before the first, which the header stands before.
+fn marks_before(before: Option<Given>, row: Given) -> &'static [u8]
+    ensures { result.now ≡ marks_before (option_map as_row before) (as_row row) }
 {
-    if out.len() < at {
-        return at;
+    match before {
+        Some(before) => between(before, row),
+        None => &[],
     }
-    if out.len() - at < new.len() {
-        return out.len() + 1;
-    }
-    let end = at + new.len();
-    out[at..end].copy_from_slice(new);
-    end
-}
-
-// Puts one byte.
-fn put_mark(out: &mut [u8], at: usize, mark: u8) -> usize
-    requires { length out.old ≡ longest }
-    ensures { Put out.old at (mark ∷ []) out.new result }
-{
-    if out.len() <= at {
-        return out.len() + 1;
-    }
-    out[at] = mark;
-    at + 1
-}
-
-// Puts marks, one at a time: there are so few that a call to copy them takes longer.
-fn put_marks(out: &mut [u8], at: usize, marks: Marks) -> usize
-    requires out_len { length out.old ≡ longest }
-    requires few { Few marks }
-    ensures { Put out.old at (marks_of marks) out.new result }
-{
-    let bytes = marks.bytes;
-    let count = marks.count;
-    let mut end = at;
-    let mut i = 0;
-    while i < count {
-        end = put_mark(out, end, bytes[i]);
-        i += 1;
-    }
-    end
-}
-
-// What stands before the row from an index on.
-fn marks_before(rows: &[u32], i: usize) -> Marks
-    requires { RowAt rows.now i }
-    ensures few { Few result }
-    ensures marks { marks_of result ≡ marks_before rows.now i }
-{
-    if i == 0 {
-        return heading();
-    }
-    between(rows[i + 1], rows[i - ROW], rows[i])
 }
 
 // Puts a row: what stands before it, and its content.
-fn put_row(held: &[u8], rows: &[u32], i: usize, out: &mut [u8], at: usize) -> usize
-    requires { Ready held.now rows.now i out.old }
-    ensures { Put out.old at (marks_before rows.now i ++ (item_in held.now (row_from rows.now i)).content) out.new result }
+fn put_row(
+    held: &[u8],
+    before: Option<Given>,
+    row: Given,
+    out: &mut Candidate,
+) -> Result<(), CapacityError>
+    requires { inside held.now (as_row row) ≡ true }
+    ensures ok { OnOk result (out.new.items ≡ out.old.items ++ laid held.now (option_map as_row before) (as_row row)) }
+    ensures long { OnErr result (longest < length out.old.items + length (laid held.now (option_map as_row before) (as_row row))) }
 {
-    let row = row_from(rows, i);
+    out.try_extend_from_slice(marks_before(before, row))?;
     let start = row.start as usize;
     let end = start + row.length as usize;
-    let behind = put_marks(out, at, marks_before(rows, i));
-    put(out, behind, &held[start..end])
+    out.try_extend_from_slice(&held[start..end])
 }
 
-// Lays out the message of the rows, and answers its length; one that lies outside the buffer where the message is longer.
-pub(crate) fn lay_out(held: &[u8], rows: &[u32], out: &mut [u8]) -> usize
-    requires { Buffered held.now rows.now out.old × (0 < length rows.now) }
-    ensures { Laying (rendered (items_in held.now rows.now)) [] result out.new }
+// Lays out the message of the rows, unless it is too long.
+pub(crate) fn lay_out(held: &[u8], rows: &[u32], out: &mut Candidate) -> Result<(), CapacityError>
+    requires lie { every (inside held.now) (rows_in rows.now) ≡ true }
+    requires empty { out.old.items ≡ [] }
+    ensures ok { OnOk result (out.new.items ≡ rendered (items_in held.now rows.now)) }
+    ensures long { OnErr result (longest < length (rendered (items_in held.now rows.now))) }
 {
-    let mut at = 0;
-    let mut i = 0;
-    while i < rows.len() {
-        at = put_row(held, rows, i, out, at);
-        i += ROW;
+    out.try_extend_from_slice(&HEADER)?;
+    let mut before = None;
+    for numbers in rows.chunks_exact(ROW) {
+        let row = row_from(numbers, 0).unwrap();
+        put_row(held, before, row, out)?;
+        before = Some(row);
     }
-    let last = row_from(rows, i - ROW);
-    put_marks(out, at, ending_of(last.format, last.kind))
+    match before {
+        Some(last) => out.try_extend_from_slice(ending_of(last)),
+        None => Ok(()),
+    }
 }

@@ -5,56 +5,58 @@
 mod laying;
 mod marks;
 
-ghost use Rattle.std.specs.Prelude.{◌≡◌, length};
+ghost use Rattle.std.specs.Prelude.{◌≡◌, true, [], length};
+ghost use Rattle.std.specs.Option.{option_map};
 ghost use Rattle.label.specs.ReadMessage.{reading};
 ghost use Rattle.label.specs.Answer.{rows_read};
-ghost use Rattle.label.specs.Writing.{rows_in, ordinals_in, items_in, composed, write_answer_of, write_answer, output_after};
-ghost use Rattle.given.specs.Given.{Whole, alike};
-ghost use Rattle.writer.specs.Laying.{Buffered, Composes};
+ghost use Rattle.label.specs.Writing.{rows_in, rows_stand, ordinals_in, items_in, composed, write_answer_of, write_answer, output_after};
+ghost use Rattle.given.specs.Given.{alike};
 
-use label::{Edition, LONGEST, ROW, WriteReason, Writing};
+use label::{Edition, ROW, WriteReason, Writing};
+use laying::Candidate;
 
 // Whether a message is read in an edition, and its rows have the kinds, formats and lengths of those given.
 fn same_rows(edition: Edition, m: &[u8], rows: &[u32]) -> bool
-    requires { Whole rows.now }
     ensures { result ≡ alike (rows_read (reading edition m.now)) (rows_in rows.now) }
 {
     if stretches::rows_of(edition, m) != rows.len() / ROW {
         return false;
     }
     let mut c = steps::first(m);
-    let mut i = 0;
-    while i < rows.len() {
-        if !given::like(c, rows, i) {
+    for numbers in rows.chunks_exact(ROW) {
+        if !given::like(c, numbers, 0) {
             return false;
         }
         c = steps::next(m, c);
-        i += ROW;
     }
     true
 }
 
-// Puts the good message in an edition with these rows' kinds, formats, contents and ordinals into the first bytes of a buffer,
-// and answers how many they are; 0 where there is no such message. Rows of the same lengths that are laid out alike have the same
-// contents, so that no content is compared; and ordinals that are counted right are those of any message with these rows.
-fn compose(edition: Edition, held: &[u8], rows: &[u32], out: &mut [u8]) -> usize
-    requires { Buffered held.now rows.now out.old }
-    ensures { Composes (composed edition (items_in held.now rows.now) (ordinals_in rows.now)) result out.new }
+// Lays out the good message in an edition with these rows' kinds, formats, contents and ordinals, if there is one. Rows of the same
+// lengths that are laid out alike have the same contents, so that no content is compared; and ordinals that are counted right are
+// those of any message with these rows.
+fn compose<'a>(
+    edition: Edition,
+    held: &[u8],
+    rows: &[u32],
+    out: &'a mut Candidate,
+) -> Option<&'a [u8]>
+    requires stand { rows_stand held.now rows.now ≡ true }
+    requires empty { out.old.items ≡ [] }
+    ensures { option_map (λ m. m.now) result ≡ composed edition (items_in held.now rows.now) (ordinals_in rows.now) }
 {
-    if rows.len() == 0 {
-        return 0;
+    if rows.is_empty() {
+        return None;
     }
     if !given::ordinals_counted(rows) {
-        return 0;
+        return None;
     }
-    let count = laying::lay_out(held, rows, out);
-    if out.len() < count {
-        return 0;
-    }
-    if same_rows(edition, &out[..count], rows) {
-        count
+    laying::lay_out(held, rows, out).ok()?;
+    let message = out.as_slice();
+    if same_rows(edition, message, rows) {
+        Some(message)
     } else {
-        0
+        None
     }
 }
 
@@ -68,14 +70,14 @@ pub fn write(edition: Edition, held: &[u8], rows: &[u32], output: &mut [u8]) -> 
     if !given::rows_stand(held, rows) {
         return Err(WriteReason::BadRows);
     }
-    let mut candidate = [0u8; LONGEST];
-    let count = compose(edition, held, rows, &mut candidate);
-    if count == 0 {
+    let mut candidate = Candidate::new();
+    let Some(message) = compose(edition, held, rows, &mut candidate) else {
         return Err(WriteReason::NoSuchMessage);
-    }
+    };
+    let count = message.len();
     if output.len() < count {
         return Err(WriteReason::NoOutputRoom);
     }
-    output[..count].copy_from_slice(&candidate[..count]);
+    output[..count].copy_from_slice(message);
     Ok(count)
 }

@@ -1,129 +1,103 @@
-// The marks around rows: before the first, between two, behind the last. Which they are follows from kinds and formats.
-ghost use Rattle.std.specs.Prelude.{◌≡◌, ◌&&◌, [], ◌∷◌, leb};
+// The marks around rows: between two, and behind the last. Which they are follows from kinds and formats.
+ghost use Rattle.std.specs.Prelude.{◌≡◌, ◌&&◌, leb, eqb};
 ghost use Rattle.label.specs.Formats.{widest, rule_of};
-ghost use Rattle.label.specs.Written.{tag_row, sub_element_row};
-ghost use Rattle.label.specs.Message.{header};
+ghost use Rattle.label.specs.Written.{value_row, tag_row, sub_element_row};
 ghost use Rattle.label.specs.Rendered.{before_value, closing, marks_between, ending};
-ghost use Rattle.writer.specs.Marks.{Few, marks_of};
+ghost use Rattle.writer.specs.Kinds.{IsKind};
 
 use formats::Shape;
-use label::{HEADER, HEADER_LENGTH};
+use given::Given;
 use leaves::{EOT, FS, GS, RS, US};
 
-// Some marks: as many of the bytes as count says. `marks_of` of specs/Marks has them.
+// What a row is, by the number of its kind.
 #[derive(Clone, Copy)]
-pub struct Marks {
-    pub bytes: [u8; HEADER_LENGTH],
-    pub count: usize,
+enum RowKind {
+    Indicator,
+    HeaderValue,
+    Piece,
+    Tag,
+    LaterElement,
+    FurtherSubElement,
+    Body,
 }
 
-fn none() -> Marks
-    ensures few { Few result }
-    ensures marks { marks_of result ≡ [] }
-{
-    Marks {
-        bytes: [0, 0, 0, 0],
-        count: 0,
-    }
-}
+// Any other number is taken as a body's.
+impl From<u32> for RowKind {
+    ghost from_gives = { λ number kind. IsKind number kind };
 
-fn one(b: u8) -> Marks
-    ensures few { Few result }
-    ensures marks { marks_of result ≡ b ∷ [] }
-{
-    Marks {
-        bytes: [b, 0, 0, 0],
-        count: 1,
-    }
-}
-
-// The message's header.
-pub(crate) fn heading() -> Marks
-    ensures few { Few result }
-    ensures marks { marks_of result ≡ header }
-{
-    Marks {
-        bytes: HEADER,
-        count: HEADER_LENGTH,
+    fn from(number: u32) -> RowKind {
+        match number {
+            1 => RowKind::Indicator,
+            2 => RowKind::HeaderValue,
+            3 => RowKind::Piece,
+            4 => RowKind::Tag,
+            5 => RowKind::LaterElement,
+            6 => RowKind::FurtherSubElement,
+            _ => RowKind::Body,
+        }
     }
 }
 
 // Before a header value, by the format.
-fn before_value(format: u32) -> Marks
-    ensures few { Few result }
-    ensures marks { marks_of result ≡ before_value (rule_of widest format) }
+fn before_value(format: u32) -> &'static [u8]
+    ensures { result.now ≡ before_value (rule_of widest format) }
 {
-    let shape = formats::shape_of(format as usize);
-    match shape {
-        Shape::Segments03 => none(),
-        Shape::Segments04 => none(),
-        Shape::CountOnly => none(),
-        _ => one(GS),
+    match formats::shape_of(format as usize) {
+        Shape::Segments03 | Shape::Segments04 | Shape::CountOnly => &[],
+        _ => &[GS],
     }
 }
 
-// Whether a row of a kind stands in a segment.
-fn in_segment(p: u32) -> bool
-    ensures { result ≡ leb tag_row p && leb p sub_element_row }
+// Whether a row is a header value.
+fn is_value(row: Given) -> bool
+    ensures { result ≡ eqb row.kind value_row }
 {
-    (4 <= p) & (p <= 6)
+    matches!(RowKind::from(row.kind), RowKind::HeaderValue)
 }
 
-// Behind an envelope whose last row has a kind: FS ends a segment, RS the envelope.
-fn closing_of(p: u32) -> Marks
-    ensures few { Few result }
-    ensures marks { marks_of result ≡ closing p }
+// Whether a row stands in a segment.
+fn in_segment(row: Given) -> bool
+    ensures { result ≡ leb tag_row row.kind && leb row.kind sub_element_row }
 {
-    if in_segment(p) {
-        return Marks {
-            bytes: [FS, RS, 0, 0],
-            count: 2,
-        };
+    matches!(
+        RowKind::from(row.kind),
+        RowKind::Tag | RowKind::LaterElement | RowKind::FurtherSubElement
+    )
+}
+
+// Behind an envelope's last row: FS ends a segment, RS the envelope.
+fn closing_of(last: Given) -> &'static [u8]
+    ensures { result.now ≡ closing last.kind }
+{
+    if in_segment(last) { &[FS, RS] } else { &[RS] }
+}
+
+// Between two rows.
+pub(crate) fn between(before: Given, row: Given) -> &'static [u8]
+    ensures { result.now ≡ marks_between (rule_of widest row.format) before.kind row.kind }
+{
+    let behind_value = is_value(before);
+    match RowKind::from(row.kind) {
+        RowKind::Indicator => closing_of(before),
+        RowKind::HeaderValue => before_value(row.format),
+        RowKind::Piece => if behind_value { &[] } else { &[GS] },
+        RowKind::Tag => if behind_value { &[FS, GS, US] } else { &[FS] },
+        RowKind::LaterElement => &[GS],
+        RowKind::FurtherSubElement => &[US],
+        RowKind::Body => if behind_value { &[GS] } else { &[] },
     }
-    one(RS)
 }
 
-// Between a row of kind p and a row of kind k in a format.
-pub(crate) fn between(format: u32, p: u32, k: u32) -> Marks
-    ensures few { Few result }
-    ensures marks { marks_of result ≡ marks_between (rule_of widest format) p k }
+// Behind the last row: the envelope's and the message's end; nothing where the format takes all the rest.
+pub(crate) fn ending_of(last: Given) -> &'static [u8]
+    ensures { result.now ≡ ending (rule_of widest last.format) last.kind }
 {
-    match k {
-        1 => closing_of(p),
-        2 => before_value(format),
-        3 => if p == 2 { none() } else { one(GS) },
-        4 => if p == 2 {
-            Marks {
-                bytes: [FS, GS, US, 0],
-                count: 3,
-            }
+    match formats::shape_of(last.format as usize) {
+        Shape::Rest => &[],
+        _ => if in_segment(last) {
+            &[FS, RS, EOT]
         } else {
-            one(FS)
-        },
-        5 => one(GS),
-        6 => one(US),
-        _ => if p == 2 { one(GS) } else { none() },
-    }
-}
-
-// Behind the last row, of kind p: the envelope's and the message's end; nothing where the format takes all the rest.
-pub(crate) fn ending_of(format: u32, p: u32) -> Marks
-    ensures few { Few result }
-    ensures marks { marks_of result ≡ ending (rule_of widest format) p }
-{
-    let shape = formats::shape_of(format as usize);
-    match shape {
-        Shape::Rest => none(),
-        _ => if in_segment(p) {
-            Marks {
-                bytes: [FS, RS, EOT, 0],
-                count: 3,
-            }
-        } else {
-            Marks {
-                bytes: [RS, EOT, 0, 0],
-                count: 2,
-            }
+            &[RS, EOT]
         },
     }
 }

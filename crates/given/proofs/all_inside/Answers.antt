@@ -1,39 +1,30 @@
-use Prim.Native.Nat.{◌+◌}
-use mathlib.Core.Path.{refl, ◌∙◌}
-use mathlib.Core.Bool.{◌&&◌}
-use native.Mathlib.Omega.{arith}
+use mathlib.Core.Path.{sym, ap, ◌∙◌}
 use borrow.Author.Rules.{rules}
-use lib.ListN.{length, drop}
-use lib.Dec.{leb}
+use Rattle.std.specs.Slice.Iter.{chunks_exact_rest}
 use Rattle.label.specs.Bytes.{every}
-use Rattle.label.specs.Limits.{row_width}
 use Rattle.label.specs.Writing.{rows_in, inside}
-use Rattle.given.proofs.GivenLaws.{next_whole, all_turn, all_end}
+use Rattle.given.specs.Given.{as_row}
+use Rattle.given.proofs.GivenLaws.{row_here, lies_inside, lies_outside}
 use Rattle.given.proofs.all_inside.Goals as goal
 
-pub loop-i-init : goal.loop-i-init
-loop-i-init c = (search rules, refl, refl)
+pub returns-then-held-row : goal.returns-then-held-row
+returns-then-held-row c = let held = c.args.held.now in
+    let at = c.loop-numbers.invariant in
+    let cut = c.in-Some.ensures.steps in
+    let x = c.in-Some.numbers.now in
+    let five = cut.1.1 ∙ at.2 in
+    let row = row_here x c.row_from.result c.unwrap-row.result five c.row_from.ensures c.unwrap-row.ensures in
+    sym (sym at.3 ∙ ap (λ ns. every (inside held) (rows_in ns)) cut.1.0 ∙ lies_outside held x (chunks_exact_rest c.next.new.self) (as_row c.unwrap-row.result) five row c.if-held-row.true)
 
-pub row_there-row-requires : goal.row_there-row-requires
-row_there-row-requires c = let ns = c.args.rows.now in
-    let at = c.loop-i in
-    next_whole ns at.i c.requires at.invariant.1 c.loop-i-test.true
-
-pub loop-i-preserved : goal.loop-i-preserved
-unfolding inside
-loop-i-preserved c = let args = c.args in
-    let held = args.held.now in
-    let ns = args.rows.now in
-    let at = c.loop-i in
-    let row = c.row_there-row.ensures in
-    let room = next_whole ns at.i c.requires at.invariant.1 c.loop-i-test.true in (
-      room,
-      omega (arith, at.invariant.1),
-      (λ j. (at.ok && leb ((row j).start + (row j).length) (length held)) && every (inside held) (rows_in (drop (at.i + row_width) ns)))
-          ∙ all_turn (inside held) ns at.ok at.i room ∙ at.invariant.2,
+pub loop-numbers-preserved : goal.loop-numbers-preserved
+loop-numbers-preserved c = let held = c.args.held.now in
+    let at = c.loop-numbers.invariant in
+    let cut = c.in-Some.ensures.steps in
+    let x = c.in-Some.numbers.now in
+    let five = cut.1.1 ∙ at.2 in
+    let row = row_here x c.row_from.result c.unwrap-row.result five c.row_from.ensures c.unwrap-row.ensures in (
+      search rules,
+      tt,
+      cut.0 ∙ at.2,
+      sym (ap (λ ns. every (inside held) (rows_in ns)) cut.1.0 ∙ lies_inside held x (chunks_exact_rest c.next.new.self) (as_row c.unwrap-row.result) five row c.if-held-row.false) ∙ at.3,
     )
-
-pub returns : goal.returns
-returns c = let args = c.args in
-    let at = c.loop-i in
-    all_end (inside args.held.now) args.rows.now at.ok at.i c.loop-i-test.false ∙ at.invariant.2

@@ -8,7 +8,7 @@ use Rattle.label.specs.Layout.{all_numbers}
 use Rattle.label.specs.ReadMessage.{reading}
 use Rattle.label.specs.Answer.{rows_read, overlaid}
 use Rattle.label.specs.Counting.{raised}
-use Rattle.label.proofs.Ordinals.{read_counted_lem}
+use Rattle.label.proofs.Ordinals.{read_counted_lem, raised_small, raised_by_test}
 use Rattle.label.proofs.Answers.{rows_few}
 use Rattle.walk.specs.declared.Cursor.{Cursor}
 use Rattle.walk.specs.Cursors.{kind_of}
@@ -35,15 +35,16 @@ put_row-requires c = let room = c.requires in
     let long = filled_length m all old at.table at.c at.ordinal at.i (at.invariant edition counted) roomy in
     record { roomy = omega arith; inside = filled_inside m all old at.table at.c at.ordinal at.i (at.invariant edition counted) roomy more (walked edition m).inside }
 
-pub raised_at-ordinal-requires : goal.raised_at-ordinal-requires
-raised_at-ordinal-requires c = let room = c.requires in
+pub overflow_add-ordinal : goal.overflow_add-ordinal
+overflow_add-ordinal c = let room = c.requires in
     let edition = room.edition in
     let counted = room.counted in
     let m = c.args.m.now in
     let all = rows_read (reading edition m) in
     let at = c.loop-i in
     let more : at.i < length all = omega (arith, counted, c.loop-i-test.true) in
-    omega (arith, (at.invariant edition counted).small, more, rows_few edition m)
+    let kind = c.kind_of.result in
+    omega (arith, c.from-ordinal.ensures, raised_by_test at.ordinal kind, raised_small at.ordinal kind at.i (at.invariant edition counted).small, more, rows_few edition m)
 
 pub loop-i-preserved : goal.loop-i-preserved
 loop-i-preserved c edition counted = let m = c.args.m.now in
@@ -53,11 +54,11 @@ loop-i-preserved c edition counted = let m = c.args.m.now in
     let at = c.loop-i in
     let put = c.put_row in
     let next = c.next-c in
-    let by = c.raised_at-ordinal in
     let more : at.i < length all = omega (arith, counted, c.loop-i-test.true) in
-    subst (λ (next : Cursor). Filled m all old put.new.t next by.result (at.i + 1)) (sym next.ensures)
-    (filled_next m all old at.table at.c at.ordinal at.i (at.invariant edition counted) roomy more put.new.t put.ensures by.result
-    (by.ensures ∙ ap (λ (at : Cursor). raised c.loop-i.ordinal (kind_of at.stage)) next.ensures))
+    subst (λ (next : Cursor). Filled m all old put.new.t next (at.ordinal + c.from-ordinal.result) (at.i + 1)) (sym next.ensures)
+    (filled_next m all old at.table at.c at.ordinal at.i (at.invariant edition counted) roomy more put.new.t put.ensures (at.ordinal + c.from-ordinal.result)
+    (ap (λ n. at.ordinal + n) c.from-ordinal.ensures ∙ raised_by_test at.ordinal c.kind_of.result
+    ∙ ap (raised c.loop-i.ordinal) (c.kind_of.ensures ∙ ap (λ (at : Cursor). kind_of at.stage) next.ensures)))
 
 pub returns : goal.returns
 returns c edition counted = let m = c.args.m.now in

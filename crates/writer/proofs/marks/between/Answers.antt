@@ -1,47 +1,55 @@
 -- `between` goes by the kind of the later row.
-use native.Mathlib.Omega.{arith}
+use mathlib.Core.Path.{sym, ◌∙◌}
 use borrow.Author.Tests.{ne_eqb}
 use Rattle.label.specs.Rendered.{marks_between}
 use Rattle.writer.proofs.marks.between.Goals as goal
 
-pub returns-in-1 : goal.returns-in-1
+pub returns-in-Indicator : goal.returns-in-Indicator
 unfolding marks_between
-returns-in-1 c = record { few = c.closing_of.ensures.few; marks = simp (c.closing_of.ensures.marks, c.in-1.is) }
+returns-in-Indicator c = simp (c.closing_of.ensures, c.in-Indicator.ensures)
 
-pub returns-in-2 : goal.returns-in-2
+pub returns-in-HeaderValue : goal.returns-in-HeaderValue
 unfolding marks_between
-returns-in-2 c = record { few = c.before_value.ensures.few; marks = simp (c.before_value.ensures.marks, c.in-2.is) }
+returns-in-HeaderValue c = simp (c.before_value.ensures, c.in-HeaderValue.ensures)
 
-pub returns-then-p-eq2 : goal.returns-then-p-eq2
+pub returns-then-behind_value : goal.returns-then-behind_value
 unfolding marks_between
-returns-then-p-eq2 c = record { few = c.none.ensures.few; marks = simp (c.none.ensures.marks, c.in-3.is, c.if-p-eq2.true) }
+returns-then-behind_value c = let behind = sym c.is_value-behind_value.ensures ∙ c.if-behind_value.true in
+    simp (c.in-Piece.ensures, behind)
 
-pub returns-else-p-eq2 : goal.returns-else-p-eq2
+pub returns-else-behind_value : goal.returns-else-behind_value
 unfolding marks_between
-returns-else-p-eq2 c = record { few = c.one.ensures.few; marks = simp (c.one.ensures.marks, c.in-3.is, ne_eqb c.args.p 2 c.if-p-eq2.false) }
+returns-else-behind_value c = let behind = sym c.is_value-behind_value.ensures ∙ c.if-behind_value.false in
+    simp (c.in-Piece.ensures, behind)
 
-pub returns-then-p-eq2-2 : goal.returns-then-p-eq2-2
+pub returns-then-behind_value-2 : goal.returns-then-behind_value-2
 unfolding marks_between
-returns-then-p-eq2-2 c = record { few = omega arith; marks = simp (c.in-4.is, c.if-p-eq2-2.true) }
+returns-then-behind_value-2 c = let behind = sym c.is_value-behind_value.ensures ∙ c.if-behind_value-2.true in
+    simp (c.in-Tag.ensures, behind)
 
-pub returns-else-p-eq2-2 : goal.returns-else-p-eq2-2
+pub returns-else-behind_value-2 : goal.returns-else-behind_value-2
 unfolding marks_between
-returns-else-p-eq2-2 c = record { few = c.one-else-p-eq2-2.ensures.few; marks = simp (c.one-else-p-eq2-2.ensures.marks, c.in-4.is, ne_eqb c.args.p 2 c.if-p-eq2-2.false) }
+returns-else-behind_value-2 c = let behind = sym c.is_value-behind_value.ensures ∙ c.if-behind_value-2.false in
+    simp (c.in-Tag.ensures, behind)
 
-pub returns-in-5 : goal.returns-in-5
+pub returns-in-LaterElement : goal.returns-in-LaterElement
 unfolding marks_between
-returns-in-5 c = record { few = c.one-in-5.ensures.few; marks = simp (c.one-in-5.ensures.marks, c.in-5.is) }
+returns-in-LaterElement c = simp c.in-LaterElement.ensures
 
-pub returns-in-6 : goal.returns-in-6
+pub returns-in-FurtherSubElement : goal.returns-in-FurtherSubElement
 unfolding marks_between
-returns-in-6 c = record { few = c.one-in-6.ensures.few; marks = simp (c.one-in-6.ensures.marks, c.in-6.is) }
+returns-in-FurtherSubElement c = simp c.in-FurtherSubElement.ensures
 
-pub returns-then-p-eq2-3 : goal.returns-then-p-eq2-3
+pub returns-then-behind_value-3 : goal.returns-then-behind_value-3
 unfolding marks_between
-returns-then-p-eq2-3 c = let k = c.args.k in
-    record { few = c.one-then-p-eq2-3.ensures.few; marks = simp (c.one-then-p-eq2-3.ensures.marks, ne_eqb k 1 c.in_default.in_default-own.rest.0.0.0.0.0.1, ne_eqb k 2 c.in_default.in_default-own.rest.0.0.0.0.1, ne_eqb k 3 c.in_default.in_default-own.rest.0.0.0.1, ne_eqb k 4 c.in_default.in_default-own.rest.0.0.1, ne_eqb k 5 c.in_default.in_default-own.rest.0.1, ne_eqb k 6 c.in_default.in_default-own.rest.1, c.if-p-eq2-3.true) }
+returns-then-behind_value-3 c = let k = c.args.row.kind in
+    let other = c.in-Body.ensures in
+    let behind = sym c.is_value-behind_value.ensures ∙ c.if-behind_value-3.true in
+    simp (ne_eqb k 1 other.no_indicator, ne_eqb k 2 other.no_value, ne_eqb k 3 other.no_piece, ne_eqb k 4 other.no_tag, ne_eqb k 5 other.no_element, ne_eqb k 6 other.no_sub_element, behind)
 
-pub returns-else-p-eq2-3 : goal.returns-else-p-eq2-3
+pub returns-else-behind_value-3 : goal.returns-else-behind_value-3
 unfolding marks_between
-returns-else-p-eq2-3 c = let k = c.args.k in
-    record { few = c.none-else-p-eq2-3.ensures.few; marks = simp (c.none-else-p-eq2-3.ensures.marks, ne_eqb k 1 c.in_default.in_default-own.rest.0.0.0.0.0.1, ne_eqb k 2 c.in_default.in_default-own.rest.0.0.0.0.1, ne_eqb k 3 c.in_default.in_default-own.rest.0.0.0.1, ne_eqb k 4 c.in_default.in_default-own.rest.0.0.1, ne_eqb k 5 c.in_default.in_default-own.rest.0.1, ne_eqb k 6 c.in_default.in_default-own.rest.1, ne_eqb c.args.p 2 c.if-p-eq2-3.false) }
+returns-else-behind_value-3 c = let k = c.args.row.kind in
+    let other = c.in-Body.ensures in
+    let behind = sym c.is_value-behind_value.ensures ∙ c.if-behind_value-3.false in
+    simp (ne_eqb k 1 other.no_indicator, ne_eqb k 2 other.no_value, ne_eqb k 3 other.no_piece, ne_eqb k 4 other.no_tag, ne_eqb k 5 other.no_element, ne_eqb k 6 other.no_sub_element, behind)
