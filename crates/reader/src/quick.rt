@@ -7,6 +7,7 @@ mod message;
 mod notes;
 mod runs;
 mod segments;
+mod sweep;
 mod text;
 mod transport;
 

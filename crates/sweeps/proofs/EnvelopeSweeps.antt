@@ -36,10 +36,9 @@ use Rattle.envelope.proofs.HeaderLaws.{drop_two, read_some}
 use Rattle.envelope.proofs.FormatLaws.{shown_elements, shown_text}
 use Rattle.walk.specs.declared.Stage.TheVariants.{Indicator, Piece, Body}
 use Rattle.walk.specs.declared.Cursor.{Cursor}
-use Rattle.sweeps.specs.declared.Passed.{Passed}
 use Rattle.sweeps.specs.declared.Wanted.{Wanted}
 use Rattle.walk.specs.Cursors.{ahead, standing, plain_row, indicator_at, opening, following, next_cursor}
-use Rattle.sweeps.specs.Quick.{Framed, Noted, Notable, NotedOne, Indicates, ElementsOf, BodySwept, FormatSwept, KnownSwept, EnvelopeSwept, StandsAt}
+use Rattle.sweeps.specs.Quick.{Passed, Framed, Noted, Notable, NotedOne, Indicates, ElementsOf, BodySwept, FormatSwept, KnownSwept, EnvelopeSwept, StandsAt}
 use Rattle.sweeps.proofs.ElementEnds.{neither}
 use Rattle.sweeps.proofs.Framing.{byte_behind, digit_behind}
 

@@ -17,9 +17,8 @@ use Rattle.leaves.specs.Seek.{tally_of}
 use Rattle.leaves.proofs.Turns.{drop_step, tally_behind}
 use Rattle.walk.specs.declared.Stage.TheVariants.{Tag, LaterElement, FurtherSubElement}
 use Rattle.walk.specs.declared.Cursor.{Cursor}
-use Rattle.sweeps.specs.declared.Passed.{Passed}
 use Rattle.walk.specs.Cursors.{ahead, plain_run, standing, plain_row, after_segment, after_sub_element, following, next_cursor}
-use Rattle.sweeps.specs.Quick.{Framed, RunsTo, Noted, NotedOne}
+use Rattle.sweeps.specs.Quick.{Passed, Framed, RunsTo, Noted, NotedOne}
 use Rattle.sweeps.specs.Segments.{stage_behind, in_segment, later_rows, TagTo, LaterSwept, SegmentSwept}
 use Rattle.walk.proofs.Offsets.{ahead_inside}
 use Rattle.sweeps.proofs.Framing.{more_behind, byte_behind}

@@ -33,9 +33,8 @@ use Rattle.envelope.proofs.FormatTests.{segments_body}
 use Rattle.envelope.proofs.FormatLaws.{shown_segments}
 use Rattle.walk.specs.declared.Stage.TheVariants.{Tag, ReleaseValue}
 use Rattle.walk.specs.declared.Cursor.{Cursor}
-use Rattle.sweeps.specs.declared.Passed.{Passed}
 use Rattle.walk.specs.Cursors.{ahead, standing, plain_row, indicator_at, opening, after_segment, following, next_cursor}
-use Rattle.sweeps.specs.Quick.{Framed, Noted, NotedOne, BodySwept, FormatSwept}
+use Rattle.sweeps.specs.Quick.{Passed, Framed, Noted, NotedOne, BodySwept, FormatSwept}
 use Rattle.sweeps.specs.Segments.{segments_kind, in_segment, later_rows, SegmentSwept}
 use Rattle.walk.proofs.Offsets.{ahead_inside}
 use Rattle.sweeps.proofs.Framing.{byte_behind}

@@ -1,9 +1,9 @@
 // Where a run of bytes of a class ends, and where a piece does that `pieces` takes.
-ghost use Rattle.std.specs.Prelude.{◌≡◌, false, ◌<◌, length};
+ghost use Rattle.std.specs.Prelude.{◌≡◌, false, ◌<◌, length, IfSome};
 ghost use Rattle.label.specs.Bytes.{EOT as endByte};
 ghost use Rattle.leaves.specs.Classes.{class_of};
 ghost use Rattle.pieces.specs.PieceTests.{piece_test};
-ghost use Rattle.sweeps.specs.Quick.{Framed, RunsTo, PassesTo, IfAny};
+ghost use Rattle.sweeps.specs.Quick.{Framed, RunsTo, PassesTo};
 
 use leaves::Class;
 use pieces::Kind;
@@ -22,14 +22,15 @@ pub(crate) fn run_end(m: &[u8], k: Class, at: usize) -> usize
     }
 }
 
-// The end of the piece of a kind, with an index, or 0: the plain bytes from an offset on, if they are as `pieces` asks.
-pub(crate) fn piece_end(m: &[u8], k: Kind, i: usize, at: usize) -> usize
+// The end of the piece of a kind, with an index: the plain bytes from an offset on, if they are as `pieces` asks.
+pub(crate) fn piece_end(m: &[u8], k: Kind, i: usize, at: usize) -> Option<usize>
     requires { Framed m.now × (at < length m.now) }
-    ensures { IfAny result (PassesTo (piece_test k i) m.now at result) }
+    ensures { IfSome result (PassesTo (piece_test k i) m.now at) }
 {
     let end = run_end(m, Class::Plain, at);
     if pieces::piece_holds(k, i, &m[at..end]) {
-        return end;
+        Some(end)
+    } else {
+        None
     }
-    0
 }
