@@ -5,6 +5,7 @@ mod counted;
 mod elements;
 mod message;
 mod notes;
+mod piecewise;
 mod runs;
 mod segments;
 mod sweep;

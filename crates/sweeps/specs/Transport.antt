@@ -36,3 +36,25 @@ pub record LastRight (most count size : ℕ) : Type 0 where
   pub enough : least_fields ≤ count
   pub few : count ≤ most
   pub some : size ≡ 0 → count ≡ least_fields
+
+-- the kinds of pieces that are swept one by one, and the format of each
+abbrev pub PiecesOf : Kind → ℕ → Type 0
+PiecesOf Fields02 f = f ≡ 1
+PiecesOf Fields96 f = f ≡ 1
+PiecesOf Segments03 f = ⊥
+PiecesOf Segments04 f = ⊥
+PiecesOf Elements05 f = f ≡ 5
+PiecesOf Elements06 f = f ≡ 6
+PiecesOf Text f = ⊥
+PiecesOf Elements12 f = f ≡ 12
+
+-- so many pieces may end with one of a size: only fields are counted
+abbrev pub LastOf : Kind → ℕ → ℕ → Type 0
+LastOf Fields02 count size = LastRight (most_fields version02) count size
+LastOf Fields96 count size = LastRight (most_fields version96) count size
+LastOf Segments03 count size = Unit {0}
+LastOf Segments04 count size = Unit {0}
+LastOf Elements05 count size = Unit {0}
+LastOf Elements06 count size = Unit {0}
+LastOf Text count size = Unit {0}
+LastOf Elements12 count size = Unit {0}

@@ -3,15 +3,15 @@
 ghost use Rattle.std.specs.Prelude.{◌≡◌, true, ◌<◌, length, IfSome, IfOk};
 ghost use Rattle.label.specs.Formats.{widest, rule_of};
 ghost use Rattle.pieces.specs.PieceTests.{piece_test};
-ghost use Rattle.walk.specs.Cursors.{plain_row, opening};
-ghost use Rattle.sweeps.specs.Quick.{Framed, PassesTo, IfSo, BodySwept, FormatSwept, StandsAt};
-ghost use Rattle.sweeps.specs.Transport.{FieldsOf, LastRight, fits_in, size_fits};
+ghost use Rattle.walk.specs.Cursors.{opening};
+ghost use Rattle.sweeps.specs.Quick.{Framed, PassesTo, IfSo, FormatSwept, StandsAt};
+ghost use Rattle.sweeps.specs.Transport.{fits_in, size_fits};
 
 use crate::quick::notes::Notes;
 use crate::quick::runs::{piece_end, run_end};
 use crate::quick::sweep::Sweep;
-use label::{HEADER_LENGTH, LEAST_FIELDS, MOST_FIELDS_02, MOST_FIELDS_96};
-use leaves::{Class, GS, RS};
+use label::{HEADER_LENGTH, LEAST_FIELDS};
+use leaves::{Class, GS};
 use pieces::Kind;
 use sweeps::Unswept;
 use walk::{Stage, standing_at};
@@ -43,7 +43,7 @@ fn size_fits(k: Kind, i: usize, size: usize) -> bool
 
 // The end of the field with an index. Five fields have a rule for their bytes, which `pieces` knows; of the others only the length is
 // asked, as their bytes are plain.
-fn field_end(m: &[u8], k: Kind, i: usize, at: usize) -> Option<usize>
+pub(crate) fn field_end(m: &[u8], k: Kind, i: usize, at: usize) -> Option<usize>
     requires { Framed m.now × (at < length m.now) }
     ensures { IfSome result (PassesTo (piece_test k i) m.now at) }
 {
@@ -57,44 +57,7 @@ fn field_end(m: &[u8], k: Kind, i: usize, at: usize) -> Option<usize>
     None
 }
 
-// Whether so many fields may end with one of a size: not fewer than five nor too many, and past the fifth the last is not empty.
-fn last_right(limit: usize, count: usize, size: usize) -> bool
-    ensures { IfSo result (LastRight limit count size) }
-{
-    (LEAST_FIELDS <= count) & (count <= limit) & ((count == LEAST_FIELDS) | (size != 0))
-}
-
 impl Sweep<'_> {
-    // Fields from an offset on, up to an RS: a turn takes a field and the byte behind it.
-    fn fields(
-        &self,
-        k: Kind,
-        limit: usize,
-        start: usize,
-        notes: &mut Notes,
-    ) -> Result<usize, Unswept>
-        requires { FieldsOf k limit × StandsAt self.now.message.now self.now.wanted start notes.old.rows notes.old.numbers.now (plain_row self.now.message.now Stage.Piece 1 start) }
-        ensures swept { IfOk result (λ next. BodySwept self.now.message.now self.now.wanted.from k start notes.old.rows (record { next = next; rows = notes.new.rows }) notes.new.numbers.now) }
-        ensures same { notes.new.numbers.ghost_name ≡ notes.old.numbers.ghost_name }
-    {
-        let m = self.message;
-        let before = notes.rows;
-        let mut at = start;
-        loop {
-            let end = field_end(m, k, notes.rows - before, at).ok_or(Unswept::Left)?;
-            let b = m[end];
-            let size = end - at;
-            notes.count(self.wanted, standing_at(Stage::Piece, 1, at, size))?;
-            if b == RS && last_right(limit, notes.rows - before, size) {
-                return Ok(end + 1);
-            }
-            if b != GS {
-                return Err(Unswept::Left);
-            }
-            at = end + 1;
-        }
-    }
-
     // 01: GS, the version, then fields.
     pub(crate) fn transport(&self, at: usize, notes: &mut Notes) -> Result<usize, Unswept>
         requires { StandsAt self.now.message.now self.now.wanted at notes.old.rows notes.old.numbers.now (opening self.now.message.now 1 at (rule_of widest 1)) }
@@ -111,8 +74,8 @@ impl Sweep<'_> {
         let version = (m[at + 1], m[at + 2]);
         notes.count(self.wanted, standing_at(Stage::VersionValue, 1, at + 1, 2))?;
         match version {
-            (b'0', b'2') => self.fields(Kind::Fields02, MOST_FIELDS_02, at + 3, notes),
-            (b'9', b'6') => self.fields(Kind::Fields96, MOST_FIELDS_96, at + 3, notes),
+            (b'0', b'2') => self.pieces(Kind::Fields02, 1, at + 3, notes),
+            (b'9', b'6') => self.pieces(Kind::Fields96, 1, at + 3, notes),
             _ => Err(Unswept::Left),
         }
     }

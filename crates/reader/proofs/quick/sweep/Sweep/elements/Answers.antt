@@ -3,6 +3,7 @@ use native.Mathlib.Omega.{arith}
 use Rattle.std.proofs.lemmas.Result.{IfOk-weaker}
 use Rattle.label.specs.Bytes.{GS}
 use Rattle.sweeps.proofs.Framing.{byte_behind}
+use Rattle.sweeps.proofs.PieceSweeps.{pieces_of}
 use Rattle.sweeps.proofs.EnvelopeSweeps.{elements_due, elements_swept}
 use Rattle.reader.proofs.quick.sweep.Sweep.elements.Goals as goal
 
@@ -12,7 +13,7 @@ pieces-requires c = let args = c.args in
     let s = args.self.now in
     let m = s.message.now in
     let gs = c.if-self-at-ne-GS.false in (
-      pre.0,
+      pieces_of args.k args.f pre.0,
       record {
         framed = pre.1.framed;
         inside = byte_behind m pre.1.framed args.at pre.1.inside GS gs (λ e. omega arith);

@@ -10,8 +10,8 @@ use Rattle.sweeps.specs.Quick.{BodySwept, StandsAt}
 use Rattle.sweeps.proofs.TransportLaws.{begins, fields_inside, version_noted, found_02, found_96, transport_swept}
 use Rattle.reader.proofs.quick.sweep.Sweep.transport.Goals as goal
 
-pub fields-requires : goal.fields-requires
-fields-requires c = let args = c.args in
+pub pieces-requires : goal.pieces-requires
+pieces-requires c = let args = c.args in
     let s = args.self.now in
     let m = s.message.now in
     let pre = c.requires in
@@ -29,8 +29,8 @@ fields-requires c = let args = c.args in
           }),
     )
 
-pub fields-requires-in-57-eq54 : goal.fields-requires-in-57-eq54
-fields-requires-in-57-eq54 c = let args = c.args in
+pub pieces-requires-in-57-eq54 : goal.pieces-requires-in-57-eq54
+pieces-requires-in-57-eq54 c = let args = c.args in
     let s = args.self.now in
     let m = s.message.now in
     let pre = c.requires in
@@ -55,7 +55,7 @@ returns-in-48-eq50-clause-swept c = let args = c.args in
     let rows = args.notes.now.rows in
     let ready = begins m args.at c.if-at-m.false in
     let found = found_02 m args.at rows ready c.if-m-at-ne-GS.false (omega arith) (omega arith) in
-    let rest = c.fields in
+    let rest = c.pieces in
     let new = rest.new.notes in
     IfOk-weaker rest.result _ _
     (λ next so.
@@ -70,7 +70,7 @@ returns-in-57-eq54-clause-swept c = let args = c.args in
     let rows = args.notes.now.rows in
     let ready = begins m args.at c.if-at-m.false in
     let found = found_96 m args.at rows ready c.if-m-at-ne-GS.false (omega arith) (omega arith) in
-    let rest = c.fields-in-57-eq54 in
+    let rest = c.pieces-in-57-eq54 in
     let new = rest.new.notes in
     IfOk-weaker rest.result _ _
     (λ next so.
