@@ -33,7 +33,7 @@ use Rattle.walk.specs.declared.Cursor.{Cursor}
 use Rattle.sweeps.specs.declared.Value.{Value}
 use Rattle.sweeps.specs.declared.Wanted.{Wanted}
 use Rattle.walk.specs.Cursors.{ahead, run_of, plain_run, count_from, standing, plain_row, indicator_at, opening, following, next_cursor}
-use Rattle.sweeps.specs.Quick.{Passed, Framed, RunsTo, Noted, Notable, NotedOne, FormatSwept}
+use Rattle.sweeps.specs.Quick.{Passed, Framed, RunsTo, Noted, NotedOne, FormatSwept}
 use Rattle.sweeps.specs.Counted.{ValueDue, PlainBytes, ValueSwept, PartSwept, CountSwept}
 use Rattle.walk.proofs.Offsets.{ahead_inside}
 use Rattle.sweeps.proofs.Framing.{byte_behind}
@@ -142,10 +142,6 @@ value_swept m w v at rows end old new c due narrow runs sized gs is one = record
   inside = byte_behind m due.framed end runs.inside GS gs (λ e. omega arith);
   noted = value_noted v.format (class_of v.class) narrow m at end runs gs w.from old new rows v.stage c is one due.noted;
 }
-
--- the row of a known length fits the notes
-pub row_notable : (row f : ℕ) (stage : Stage) (at n : ℕ) (c : Cursor) → c ≡ standing stage f at n → row ≤ most_rows → f ≤ 99 → at + n ≤ longest → Notable row c
-row_notable row f stage at n c is few known inside = subst (λ (d : Cursor). Notable row d) (sym is) (record { few = omega arith; inside = inside; known = known })
 
 -- Behind a header value's GS
 

@@ -2,10 +2,10 @@
 -- a turn at a time.
 use Prim.Native.Nat.{ℕ, ◌+◌, ◌-◌, ◌≤◌, ◌<◌}
 use mathlib.Core.Path.{◌≡◌, refl, sym, ap, ◌∙◌, subst}
-use mathlib.Core.Bool.{Bool, true, false, not, ◌&&◌, ◌||◌, true≢false, false≢true}
+use mathlib.Core.Bool.{Bool, true, false, not, ◌&&◌, ◌||◌, true≢false}
 use mathlib.Core.List.{List, [], ◌∷◌, ◌++◌}
 use native.Mathlib.Omega.{arith}
-use borrow.Author.Tests.{le-leb, lt-ltb, leb-true, eqb-true, eqb-false, eq-eqb}
+use borrow.Author.Tests.{le-leb, lt-ltb, eq-eqb}
 use lib.ListN.{length, get_or, take, drop}
 use lib.Dec.{leb, ltb, eqb}
 use Rattle.label.specs.Bytes.{Bytes, GS, RS, plain, every, is_empty}
@@ -38,17 +38,6 @@ use Rattle.sweeps.proofs.Sweeping.{piece_noted, piece_next, piece_last}
 last_behind : (p : Bytes) (ps : List Bytes) → is_empty ps ≡ false → last_is_empty (p ∷ ps) ≡ last_is_empty ps
 last_behind p [] some = absurd (true≢false some)
 last_behind p (q ∷ ps) some = refl
-
--- the last is right by the tests that the code makes
-pub last_right : (most count size : ℕ) → ((leb 5 count && leb count most) && (eqb count 5 || not (eqb size 0))) ≡ true → LastRight most count size
-last_right most count size is = by (leb 5 count) (leb count most) (eqb count 5) (eqb size 0) refl refl refl refl is
-  where
-    by : (s t u w : Bool) → leb 5 count ≡ s → leb count most ≡ t → eqb count 5 ≡ u → eqb size 0 ≡ w → ((s && t) && (u || not w)) ≡ true → LastRight most count size
-    by false t u w enough few five none_there is = absurd (false≢true is)
-    by true false u w enough few five none_there is = absurd (false≢true is)
-    by true true false true enough few five none_there is = absurd (false≢true is)
-    by true true true w enough few five none_there is = record { enough = leb-true 5 count enough; few = leb-true count most few; some = λ none_left. eqb-true count 5 five }
-    by true true false false enough few five none_there is = record { enough = leb-true 5 count enough; few = leb-true count most few; some = λ none_left. absurd (eqb-false size 0 none_there none_left) }
 
 module _ (test : ℕ → Bytes → Bool) (most : ℕ) where
   -- the rule by how many separators there are, each one's test, and whether the last is empty

@@ -2,7 +2,6 @@
 use Prim.Native.Nat.{ℕ, ◌+◌, ◌-◌, ◌≤◌, ◌<◌}
 use mathlib.Core.Path.{◌≡◌, refl, sym, ◌∙◌, subst}
 use mathlib.Core.List.{List}
-use native.Mathlib.Omega.{arith}
 use lib.ListN.{length, get_or}
 use Rattle.label.specs.Bytes.{Bytes, GS, RS}
 use Rattle.pieces.specs.declared.Kind.{Kind}
@@ -35,17 +34,6 @@ pub record SweepingPieces (m : Bytes) (from : ℕ) (k : Kind) (f start before : 
   pub more : before ≤ rows
   pub same : (n : ℕ) → body_kept k n m start ≡ left_of k m (rows - before) (n + (rows - before)) at
   pub noted : Noted m from notes rows (plain_row m Piece f at)
-
--- formats of pieces are small numbers
-pub pieces_known : (k : Kind) (f : ℕ) → PiecesOf k f → f ≤ 99
-pieces_known Fields02 f is = omega (arith, is)
-pieces_known Fields96 f is = omega (arith, is)
-pieces_known Segments03 f is = absurd is
-pieces_known Segments04 f is = absurd is
-pieces_known Elements05 f is = omega (arith, is)
-pieces_known Elements06 f is = omega (arith, is)
-pieces_known Text f is = absurd is
-pieces_known Elements12 f is = omega (arith, is)
 
 pub pieces_of : (k : Kind) (f : ℕ) → ElementsOf k f → PiecesOf k f
 pieces_of Fields02 f is = absurd is

@@ -123,9 +123,6 @@ pub record Rowing (m : Bytes) (from f start before : ℕ) (notes : List ℕ) (en
   pub counts : rows ≡ before + later_rows bytes
   pub noted : Noted m from notes rows (after_sub_element m f end)
 
-pub rowing_first : (m : Bytes) (from f start before : ℕ) (notes : List ℕ) → start < length m → Noted m from notes before (after_sub_element m f start) → Rowing m from f start before notes start before
-rowing_first m from f start before notes inside noted = record { bytes = []; there = refl; behind = omega arith; inside = inside; permitted = refl; counts = omega arith; noted = noted }
-
 module _ (m : Bytes) (framed : Framed m) (from f start before : ℕ) (notes : List ℕ) (end rows : ℕ) (stands : Rowing m from f start before notes end rows) where
   pub parts_more : Parts (get_or m end 0) → end + 1 < length m
   parts_more is = more_behind m framed end stands.inside (λ e. parts_end (ap (λ b. not (eqb b GS) && not (eqb b US)) (sym e) ∙ is))

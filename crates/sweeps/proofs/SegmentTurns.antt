@@ -142,15 +142,6 @@ pub record Segmenting (m : Bytes) (from f start before : ℕ) (notes : List ℕ)
   pub same : (n : ℕ) → rest_found f false n m start ≡ rest_found f some (n + (rows - before)) m at
   pub noted : Noted m from notes rows (plain_row m Tag f at)
 
-pub segmenting_first : (m : Bytes) (from f start before : ℕ) (notes : List ℕ) → start < length m → Noted m from notes before (plain_row m Tag f start) → Segmenting m from f start before notes start before
-segmenting_first m from f start before notes inside noted = record {
-  inside = inside;
-  more = omega arith;
-  some = false;
-  same = λ n. let none : n ≡ n + (before - before) = omega arith in ap (λ x. rest_found f false x m start) none;
-  noted = noted;
-}
-
 module _ (m : Bytes) (framed : Framed m) (from f start before : ℕ) (old new : List ℕ) (at rows : ℕ) (stands : Segmenting m from f start before old at rows) (p : Passed) (swept : SegmentSwept m from f at rows p new) where
   found_on : (n : ℕ) → rest_found f false n m start ≡ rest_found f true (n + (p.rows - before)) m p.next
   found_on n =

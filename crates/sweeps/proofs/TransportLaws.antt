@@ -9,7 +9,6 @@ use lib.ListN.{length, get_or, drop}
 use lib.Dec.{ltb, eqb}
 use Rattle.label.specs.declared.Reason.TheVariants.{BadFormatHeader}
 use Rattle.label.specs.Bytes.{Bytes, ascii, GS}
-use Rattle.label.specs.Limits.{longest, most_rows}
 use Rattle.label.specs.Formats.{widest, rule_of}
 use Rattle.label.specs.ReadEnvelope.{read_by}
 use Rattle.label.specs.ReadMessage.{agreement}
@@ -24,7 +23,7 @@ use Rattle.envelope.proofs.FormatLaws.{shown_transport}
 use Rattle.walk.specs.declared.Stage.TheVariants.{VersionValue, Piece}
 use Rattle.walk.specs.declared.Cursor.{Cursor}
 use Rattle.walk.specs.Cursors.{standing, plain_row, opening, following, next_cursor}
-use Rattle.sweeps.specs.Quick.{Passed, Noted, Notable, NotedOne, FirstAt, BodySwept, FormatSwept}
+use Rattle.sweeps.specs.Quick.{Passed, Noted, NotedOne, FirstAt, BodySwept, FormatSwept}
 use Rattle.walk.proofs.Offsets.{ahead_inside}
 
 -- what the code asks first: the envelope is the first one, and there is room for the version and a byte behind it
@@ -56,9 +55,6 @@ module _ (m : Bytes) (at rows : ℕ) (ready : Begins m at) where
       ap (plain_row m Piece 1) (sym (ahead_inside m (at + 1) 2 (omega (arith, fields_inside))) ∙ three)
 
   module _ (c : Cursor) (is : c ≡ standing VersionValue 1 (at + 1) 2) where
-    pub version_notable : (row : ℕ) → length m ≤ longest → row ≤ most_rows → Notable row c
-    version_notable row short few = subst (Notable row) (sym is) (record { few = omega arith; inside = omega (arith, fields_inside); known = omega arith })
-
     pub version_noted : (from : ℕ) (old new : List ℕ) → NotedOne from old new rows c → Noted m from old rows (opening m 1 at (rule_of widest 1)) → Noted m from new (rows + 1) (plain_row m Piece 1 (at + 3))
     version_noted from old new one noted = subst (Noted m from new (rows + 1)) (ap (next_cursor m) is ∙ version_step) (one m (subst (Noted m from old rows) (version_row_lem ∙ sym is) noted))
 
