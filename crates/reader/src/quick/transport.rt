@@ -27,7 +27,9 @@ fn in_limits(row: usize, i: usize, size: usize) -> bool
     ensures { result ≡ fits_in row i size }
 {
     let limit = limits::limits_of(row, i);
-    ((limit.0 as usize <= size) & (size <= limit.1 as usize)) | ((LEAST_FIELDS <= i) & (size == 0))
+    let least = usize::from(limit.0);
+    let most = usize::from(limit.1);
+    ((least <= size) & (size <= most)) | ((LEAST_FIELDS <= i) & (size == 0))
 }
 
 // The same by the field's kind.

@@ -5,4 +5,4 @@ use Rattle.reader.proofs.quick.transport.in_limits.Goals as goal
 
 pub returns : goal.returns
 returns c = let args = c.args in
-    λ j. (leb (c.limits_of-limit.ensures j).0 args.size && leb args.size (c.limits_of-limit.ensures j).1) || (leb 5 args.i && eqb args.size 0)
+    simp (c.from-least.ensures, c.from-most.ensures) (λ j. (leb (c.limits_of-limit.ensures j).0 args.size && leb args.size (c.limits_of-limit.ensures j).1) || (leb 5 args.i && eqb args.size 0))
