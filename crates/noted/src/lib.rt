@@ -17,6 +17,7 @@ pub const NOTE: usize = 4;
 pub const NOTES: usize = NOTE * MOST_ROWS;
 
 // Copies a row's numbers from a note into a table, its envelope's ordinal behind them.
+// By index: of a table whose `chunks_exact_mut` were written a proof knows the length alone, and `hand_over` promises each number.
 fn copy_row(notes: &[u16], from: usize, table: &mut [u32], at: usize, ordinal: u32)
     requires { OneCopied notes.now from table.old at }
     ensures { table.new ≡ take at table.old ++ (numbers (row_from notes.now from) ordinal ++ drop (at + row_width) table.old) }
