@@ -191,16 +191,14 @@ module _ (notes : List ℕ) (rows : ℕ) (old : List ℕ) (copies : Copies notes
       pub several_small : ordinal ≤ i
       several_small = omega (arith, up_to.own, counted_small (kinds_of (rows_noted notes)) i (omega (arith, kinds_many)))
 
-      pub several_next : (o : ℕ) → o ≡ raised ordinal (get_or notes (note_width * i + note_width) 0) → (table' : List ℕ)
-          → table' ≡ take (row_width * i + row_width) table ++ (numbers (row_from notes (note_width * i + note_width)) o ++ drop (row_width * i + row_width + row_width) table) → PutUpTo notes old table' o (i + 1)
-      several_next o is table' new =
-          let note : note_width * i + note_width ≡ note_width * (i + 1) = omega arith in
-          let row : row_width * i + row_width ≡ row_width * (i + 1) = omega arith in
+      pub several_next : (at : ℕ) → at ≡ i + 1 → (o : ℕ) → o ≡ raised ordinal (get_or notes (note_width * at) 0) → (table' : List ℕ)
+          → table' ≡ take (row_width * at) table ++ (numbers (row_from notes (note_width * at)) o ++ drop (row_width * at + row_width) table) → PutUpTo notes old table' o (i + 1)
+      several_next at here o is table' new =
           let fits = note_fits notes rows old copies (i + 1) less in
           let own : o ≡ get_or (counted_of notes) (i + 1) 0 =
-          is ∙ (λ j. raised (up_to.own j) ((ap (λ n. get_or notes n 0) note ∙ sym (noted_kind notes (i + 1) fits)) j)) ∙ sym (counted_step (kinds_of (rows_noted notes)) i kinds_many) in
+          is ∙ (λ j. raised (up_to.own j) ((ap (λ n. get_or notes (note_width * n) 0) here ∙ sym (noted_kind notes (i + 1) fits)) j)) ∙ sym (counted_step (kinds_of (rows_noted notes)) i kinds_many) in
           record {
             own = own;
             put = put_next (rows_noted notes) (counted_of notes) old as_many (all_fit notes rows old copies) table (i + 1) up_to.put _ _ (noted_here notes (i + 1) fits) o own table'
-                (new ∙ (λ j. take (row j) table ++ (numbers (row_from notes (note j)) o ++ drop (row j + row_width) table)));
+                (new ∙ (λ j. take (row_width * here j) table ++ (numbers (row_from notes (note_width * here j)) o ++ drop (row_width * here j + row_width) table)));
           }

@@ -16,22 +16,16 @@ pub const NOTE: usize = 4;
 
 pub const NOTES: usize = NOTE * MOST_ROWS;
 
-// A noted number as one of a table.
-fn widened(x: u16) -> u32
-    ensures { result ≡ x }
-{
-    x as u32
-}
-
 // Copies a row's numbers from a note into a table, its envelope's ordinal behind them.
+// By index: of a table whose `chunks_exact_mut` were written a proof knows the length alone, and `hand_over` promises each number.
 fn copy_row(notes: &[u16], from: usize, table: &mut [u32], at: usize, ordinal: u32)
     requires { OneCopied notes.now from table.old at }
     ensures { table.new ≡ take at table.old ++ (numbers (row_from notes.now from) ordinal ++ drop (at + row_width) table.old) }
 {
-    table[at] = widened(notes[from]);
-    table[at + 1] = widened(notes[from + 1]);
-    table[at + 2] = widened(notes[from + 2]);
-    table[at + 3] = widened(notes[from + 3]);
+    table[at] = u32::from(notes[from]);
+    table[at + 1] = u32::from(notes[from + 1]);
+    table[at + 2] = u32::from(notes[from + 2]);
+    table[at + 3] = u32::from(notes[from + 3]);
     table[at + 4] = ordinal;
 }
 
@@ -40,10 +34,8 @@ fn copy_alone(notes: &[u16], rows: usize, table: &mut [u32])
     requires { Copies notes.now rows table.old }
     ensures { table.new ≡ overlaid (all_numbers (rows_noted notes.now) (map (λ (r : Row). 0) (rows_noted notes.now))) table.old }
 {
-    let mut i = 0;
-    while i < rows {
+    for i in 0..rows {
         copy_row(notes, NOTE * i, table, ROW * i, 0);
-        i += 1;
     }
 }
 
@@ -65,13 +57,10 @@ fn copy_several(notes: &[u16], rows: usize, table: &mut [u32])
         return;
     }
     copy_row(notes, 0, table, 0, 0);
-    let later = rows - 1;
     let mut ordinal = 0;
-    let mut i = 0;
-    while i < later {
-        ordinal = raised_by(ordinal, notes[NOTE * i + NOTE]);
-        copy_row(notes, NOTE * i + NOTE, table, ROW * i + ROW, ordinal);
-        i += 1;
+    for i in 1..rows {
+        ordinal = raised_by(ordinal, notes[NOTE * i]);
+        copy_row(notes, NOTE * i, table, ROW * i, ordinal);
     }
 }
 
@@ -103,21 +92,14 @@ pub fn hand_over(envelopes: usize, notes: &[u16], table: &mut [u32]) -> Reading
     Ok(Counts { envelopes, rows })
 }
 
-// A noted number as an offset or a length.
-fn offset_of(x: u16) -> usize
-    ensures { result ≡ x }
-{
-    x as usize
-}
-
 // The stretch of a row, by its number, of a message with so many rows, by the note of this row alone; the empty start where there is no such row.
 pub fn stretch_noted(row: usize, rows: usize, note: &[u16; NOTE]) -> Stretch
     ensures { result ≡ stretch_from row rows note.now }
 {
     if row < rows {
         return Stretch {
-            start: offset_of(note[2]),
-            length: offset_of(note[3]),
+            start: usize::from(note[2]),
+            length: usize::from(note[3]),
         };
     }
     Stretch {

@@ -29,9 +29,7 @@ use Rattle.leaves.proofs.Turns.{four_there}
 use Rattle.noted.specs.Noted.{note_width, rows_noted, ordinals_noted, too_many, answer_from, table_from, stretch_from}
 use Rattle.walk.specs.Cursors.{row_of}
 use Rattle.stretches.specs.Stretches.{Lies}
-use Rattle.sweeps.specs.declared.Swept.{Swept}
-use Rattle.sweeps.specs.declared.Swept.TheVariants.{Good}
-use Rattle.sweeps.specs.Quick.{cursor_after, Holds, Kept, SweptSo, Handed, OneKept}
+use Rattle.sweeps.specs.Quick.{cursor_after, Holds, Kept, GoodSwept, Handed, OneKept}
 use Rattle.walk.proofs.Walks.{Yields}
 use Rattle.walk.proofs.Promises.{walked}
 use Rattle.walk.proofs.Standing.{rows_here, yields_next}
@@ -137,13 +135,9 @@ lies_as_noted edition m row rows note kept = by (ltb row rows) refl where
   by false is = lies_nowhere edition m row (omega (arith, kept.counted, ltb-false row rows is))
 
 -- a swept message is handed over, if the notes have room for all rows that were asked for
-pub handed : (edition : Edition) (m : Bytes) (most : ℕ) (notes : List ℕ) (r : Swept) (counts : Counts) → r ≡ Good counts → SweptSo edition m (record { from = 0; most = most }) notes r → note_width * most ≤ length notes → Handed edition m counts notes
-handed edition m most notes r counts is so roomy =
-    let good = subst (SweptSo edition m (record { from = 0; most = most }) notes) is so in
-    record { judged = good.judged; roomy = omega (arith, good.few); kept = good.kept }
+pub handed : (edition : Edition) (m : Bytes) (most : ℕ) (notes : List ℕ) (counts : Counts) → GoodSwept edition m (record { from = 0; most = most }) notes counts → note_width * most ≤ length notes → Handed edition m counts notes
+handed edition m most notes counts good roomy = record { judged = good.judged; roomy = omega (arith, good.few); kept = good.kept }
 
 -- likewise the only row that was asked for
-pub one_kept : (edition : Edition) (m : Bytes) (row most : ℕ) (note : List ℕ) (r : Swept) (counts : Counts) → r ≡ Good counts → SweptSo edition m (record { from = row; most = most }) note r → note_width ≤ length note → OneKept edition m row counts.rows note
-one_kept edition m row most note r counts is so roomy =
-    let good = subst (SweptSo edition m (record { from = row; most = most }) note) is so in
-    record { counted = rows_judged edition m counts good.judged; one = roomy; kept = good.kept }
+pub one_kept : (edition : Edition) (m : Bytes) (row most : ℕ) (note : List ℕ) (counts : Counts) → GoodSwept edition m (record { from = row; most = most }) note counts → note_width ≤ length note → OneKept edition m row counts.rows note
+one_kept edition m row most note counts good roomy = record { counted = rows_judged edition m counts good.judged; one = roomy; kept = good.kept }

@@ -6,7 +6,7 @@ ghost use Rattle.stretches.specs.Stretches.{Lies};
 use crate::quick::{framed, sweep};
 use label::{Edition, MOST_ROWS, Stretch};
 use noted::NOTE;
-use sweeps::{Swept, Wanted};
+use sweeps::Wanted;
 
 // Where a row's part lies; the empty start where there is no such row. The quick path notes this row alone.
 pub fn stretch_of(edition: Edition, m: &[u8], row: usize) -> Stretch
@@ -26,8 +26,8 @@ pub fn stretch_of(edition: Edition, m: &[u8], row: usize) -> Stretch
         &mut note,
     );
     match swept {
-        Swept::Good(counts) => noted::stretch_noted(row, counts.rows, &note),
-        _ => stretches::stretch_exactly(edition, m, row),
+        Ok(counts) => noted::stretch_noted(row, counts.rows, &note),
+        Err(_) => stretches::stretch_exactly(edition, m, row),
     }
 }
 

@@ -5,8 +5,10 @@ mod counted;
 mod elements;
 mod message;
 mod notes;
+mod piecewise;
 mod runs;
 mod segments;
+mod sweep;
 mod text;
 mod transport;
 

@@ -1,13 +1,15 @@
 // Reading a message into a lent table: the whole message is judged first, and only then are its rows filled in. A good message is mostly
 // judged by the quick path, which notes the rows; what that leaves is read exactly.
-ghost use Rattle.std.specs.Prelude.{◌≡◌};
+ghost use Rattle.std.specs.Prelude.{◌≡◌, ◌*◌, ◌≤◌, IfOk, OnOk, OnErr};
+ghost use Rattle.label.specs.Limits.{most_rows};
 ghost use Rattle.label.specs.Answer.{answer_of, room_of, read_answer, table_after};
+ghost use Rattle.noted.specs.Noted.{note_width};
 ghost use Rattle.sweeps.specs.Quick.{Headed, Handed};
 
 use crate::quick::{framed, sweep};
-use label::{Counts, Edition, MOST_ROWS, Reading};
+use label::{Counts, Edition, Reading};
 use noted::{NOTE, NOTES};
-use sweeps::{Swept, Wanted};
+use sweeps::{Unswept, Wanted};
 
 // Most labels have no more rows than this, and notes for the most rows take long to clear.
 const FEW_ROWS: usize = 64;
@@ -30,26 +32,24 @@ fn hand_over(
     noted::hand_over(found.envelopes, &notes[..end], table)
 }
 
-// With notes for as many rows as a message may have.
-fn read_many(edition: Edition, message: &[u8], table: &mut [u32]) -> Reading
-    requires { Headed message.now }
-    ensures answer { answer_of result ≡ read_answer edition message.now (room_of table.old) }
-    ensures rows { table.new ≡ table_after edition message.now table.old }
+// With notes for as many rows as so many numbers are.
+fn read_noting<const NUMBERS: usize>(
+    edition: Edition,
+    message: &[u8],
+    table: &mut [u32],
+) -> Result<Reading, Unswept>
+    requires { (NUMBERS ≤ note_width * most_rows) × Headed message.now }
+    ensures answer { IfOk result (λ reading. answer_of reading ≡ read_answer edition message.now (room_of table.old)) }
+    ensures rows { OnOk result (table.new ≡ table_after edition message.now table.old) }
+    ensures left { OnErr result (table.new ≡ table.old) }
 {
-    let mut notes = [0u16; NOTES];
-    let swept = sweep(
-        edition,
-        message,
-        Wanted {
-            from: 0,
-            most: MOST_ROWS,
-        },
-        &mut notes,
-    );
-    match swept {
-        Swept::Good(counts) => hand_over(edition, message, counts, &notes, table),
-        _ => exact::read_exactly(edition, message, table),
-    }
+    let mut numbers = [0u16; NUMBERS];
+    let wanted = Wanted {
+        from: 0,
+        most: NUMBERS / NOTE,
+    };
+    let counts = sweep(edition, message, wanted, &mut numbers)?;
+    Ok(hand_over(edition, message, counts, &numbers, table))
 }
 
 // Reads a message of any bytes and any length, in an edition, into a table of any length, whose room is its length divided by the
@@ -62,19 +62,12 @@ pub fn read(edition: Edition, message: &[u8], table: &mut [u32]) -> Reading
     if !framed(message) {
         return exact::read_exactly(edition, message, table);
     }
-    let mut notes = [0u16; FEW_NOTES];
-    let swept = sweep(
-        edition,
-        message,
-        Wanted {
-            from: 0,
-            most: FEW_ROWS,
-        },
-        &mut notes,
-    );
+    let swept = match read_noting::<FEW_NOTES>(edition, message, table) {
+        Err(Unswept::Full) => read_noting::<NOTES>(edition, message, table),
+        few => few,
+    };
     match swept {
-        Swept::Good(counts) => hand_over(edition, message, counts, &notes, table),
-        Swept::Full => read_many(edition, message, table),
-        Swept::Left => exact::read_exactly(edition, message, table),
+        Ok(reading) => reading,
+        Err(_) => exact::read_exactly(edition, message, table),
     }
 }

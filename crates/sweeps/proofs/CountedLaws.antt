@@ -30,10 +30,10 @@ use Rattle.walk.specs.declared.Stage.{Stage}
 use Rattle.walk.specs.declared.Stage.TheVariants.{TypeValue, CompressionValue, CountValue, Body}
 use Rattle.walk.specs.declared.Cursor.{Cursor}
 use Rattle.sweeps.specs.declared.Value.{Value}
-use Rattle.sweeps.specs.declared.Passed.{Passed}
+use Rattle.sweeps.specs.declared.Wanted.{Wanted}
 use Rattle.walk.specs.Cursors.{ahead, run_of, plain_run, count_from, standing, plain_row, indicator_at, opening, following, next_cursor}
-use Rattle.sweeps.specs.Quick.{Framed, RunsTo, Noted, Notable, NotedOne, FormatSwept}
-use Rattle.sweeps.specs.Counted.{Due, PlainBytes, ValueSwept, PartSwept, CountSwept}
+use Rattle.sweeps.specs.Quick.{Passed, Framed, RunsTo, Noted, NotedOne, FormatSwept}
+use Rattle.sweeps.specs.Counted.{ValueDue, PlainBytes, ValueSwept, PartSwept, CountSwept}
 use Rattle.walk.proofs.Offsets.{ahead_inside}
 use Rattle.sweeps.proofs.Framing.{byte_behind}
 use Rattle.sweeps.proofs.PieceTurns.{run_every}
@@ -130,21 +130,17 @@ module _ (f : ℕ) (class : ℕ → Bool) (narrow : Implies class plain) (m : By
       (one m (subst (λ (d : Cursor). Noted m from old rows d) (sym (is ∙ value_row_lem stage)) noted))
 
 -- a header value that is swept
-pub value_swept : (m : Bytes) (from : ℕ) (v : Value) (at rows end : ℕ) (old new : List ℕ) (c : Cursor) → Due m from v.format v.stage at rows 1 old → PlainBytes v
+pub value_swept : (m : Bytes) (w : Wanted) (v : Value) (at rows end : ℕ) (old new : List ℕ) (c : Cursor) → ValueDue m w v.format v.stage at rows old → PlainBytes v
     → RunsTo (class_of v.class) m at end → (ltb (end - at) v.least || ltb v.most (end - at)) ≡ false → get_or m end 0 ≡ GS
-    → c ≡ standing v.stage v.format at (end - at) → NotedOne from old new rows c → ValueSwept m from v at rows (end + 1) new
-value_swept m from v at rows end old new c due narrow runs sized gs is one = record {
+    → c ≡ standing v.stage v.format at (end - at) → NotedOne w.from old new rows c → ValueSwept m w.from v at rows (end + 1) new
+value_swept m w v at rows end old new c due narrow runs sized gs is one = record {
   end = end;
   behind = refl;
   ends = value_ends v.format (class_of v.class) narrow m at end runs gs v.least v.most sized;
   runs = runs;
   inside = byte_behind m due.framed end runs.inside GS gs (λ e. omega arith);
-  noted = value_noted v.format (class_of v.class) narrow m at end runs gs from old new rows v.stage c is one due.noted;
+  noted = value_noted v.format (class_of v.class) narrow m at end runs gs w.from old new rows v.stage c is one due.noted;
 }
-
--- the row of a known length fits the notes
-pub row_notable : (row f : ℕ) (stage : Stage) (at n : ℕ) (c : Cursor) → c ≡ standing stage f at n → row ≤ most_rows → f ≤ 99 → at + n ≤ longest → Notable row c
-row_notable row f stage at n c is few known inside = subst (λ (d : Cursor). Notable row d) (sym is) (record { few = omega arith; inside = inside; known = known })
 
 -- Behind a header value's GS
 
@@ -182,15 +178,15 @@ module _ (f : ℕ) (m : Bytes) (at end next : ℕ) (is : next ≡ end + 1) (insi
       ∙ cond_yes _ _ _ (and_both (lt-ltb n (length (drop next m)) (omega (arith, length-drop next m))) (eq-eqb _ RS (get_or-drop next m n 0 ∙ rs)))
 
 -- a header value is due behind the one that is swept
-pub value_due : (m : Bytes) (from : ℕ) (v : Value) (at rows next : ℕ) (notes : List ℕ) (stage : Stage) (room : ℕ)
+pub value_due : (m : Bytes) (w : Wanted) (v : Value) (at rows next : ℕ) (notes : List ℕ) (stage : Stage)
     → ((end : ℕ) → next ≡ end + 1 → next < length m → following m v.format at end v.stage ≡ plain_row m stage v.format next)
-    → Framed m → rows + 1 + room ≤ most_rows → v.format ≤ 99 → ValueSwept m from v at rows next notes → Due m from v.format stage next (rows + 1) room notes
-value_due m from v at rows next notes stage room step framed few known swept = record {
+    → Framed m → w.most ≤ most_rows → v.format ≤ 99 → ValueSwept m w.from v at rows next notes → ValueDue m w v.format stage next (rows + 1) notes
+value_due m w v at rows next notes stage step framed few known swept = record {
   framed = framed;
   inside = swept.inside;
   few = few;
   known = known;
-  noted = subst (λ (c : Cursor). Noted m from notes (rows + 1) c) (step swept.end swept.behind swept.inside) swept.noted;
+  noted = subst (λ (c : Cursor). Noted m w.from notes (rows + 1) c) (step swept.end swept.behind swept.inside) swept.noted;
 }
 
 -- the row of a payload, and the step behind it
@@ -257,13 +253,13 @@ module _ (m : Bytes) (from at rows : ℕ) (framed : Framed m) (inside : at < len
   more : at + 1 < length m
   more = byte_behind m framed at inside GS gs (λ e. omega arith)
 
-  pub type_due : (notes : List ℕ) → rows + 1 ≤ most_rows → Noted m from notes rows (opening m 9 at (rule_of widest 9)) → Due m from 9 TypeValue (at + 1) rows 1 notes
-  type_due notes few noted = record {
+  pub type_due : (w : Wanted) (notes : List ℕ) → w.most ≤ most_rows → Noted m w.from notes rows (opening m 9 at (rule_of widest 9)) → ValueDue m w 9 TypeValue (at + 1) rows notes
+  type_due w notes few noted = record {
     framed = framed;
     inside = more;
     few = few;
     known = omega arith;
-    noted = subst (λ (c : Cursor). Noted m from notes rows c) (behind_indicator m at more) noted;
+    noted = subst (λ (c : Cursor). Noted m w.from notes rows c) (behind_indicator m at more) noted;
   }
 
   pub counted_swept : (next : ℕ) (mid new : List ℕ) (p : Passed) → ValueSwept m from type_value (at + 1) rows next mid → PartSwept m from (compression_found m next) 5 (rows + 1 + 3) p new → FormatSwept m from 9 at rows p new
@@ -278,9 +274,9 @@ module _ (m : Bytes) (from at rows : ℕ) (framed : Framed m) (inside : at < len
       }
 
 -- 15: the count right behind the indicator
-pub count_due : (m : Bytes) (from at rows : ℕ) (notes : List ℕ) → Framed m → at < length m → rows + 2 ≤ most_rows → Noted m from notes rows (opening m 15 at (rule_of widest 15)) → Due m from 15 CountValue at rows 2 notes
+pub count_due : (m : Bytes) (w : Wanted) (at rows : ℕ) (notes : List ℕ) → Framed m → at < length m → w.most ≤ most_rows → Noted m w.from notes rows (opening m 15 at (rule_of widest 15)) → ValueDue m w 15 CountValue at rows notes
 unfolding opening rule_of
-count_due m from at rows notes framed inside few noted = record { framed = framed; inside = inside; few = few; known = omega arith; noted = noted }
+count_due m w at rows notes framed inside few noted = record { framed = framed; inside = inside; few = few; known = omega arith; noted = noted }
 
 pub count_only_swept : (m : Bytes) (from at rows : ℕ) (new : List ℕ) (p : Passed) → at < length m → CountSwept m from at rows p new → FormatSwept m from 15 at rows p new
 unfolding rule_of read_by

@@ -11,7 +11,6 @@ use lib.Dec.{eqb, ltb}
 use Rattle.label.specs.declared.Reason.TheVariants.{BadFormatHeader}
 use Rattle.label.specs.declared.Edition.{Edition}
 use Rattle.label.specs.Bytes.{Bytes, GS, RS, between, digit, every}
-use Rattle.label.specs.Limits.{most_rows}
 use Rattle.label.specs.Values.{value}
 use Rattle.label.specs.Elements.{element05, element06, element12}
 use Rattle.label.specs.Formats.{widest, rule_of, text_byte}
@@ -36,10 +35,9 @@ use Rattle.envelope.proofs.HeaderLaws.{drop_two, read_some}
 use Rattle.envelope.proofs.FormatLaws.{shown_elements, shown_text}
 use Rattle.walk.specs.declared.Stage.TheVariants.{Indicator, Piece, Body}
 use Rattle.walk.specs.declared.Cursor.{Cursor}
-use Rattle.sweeps.specs.declared.Passed.{Passed}
 use Rattle.sweeps.specs.declared.Wanted.{Wanted}
 use Rattle.walk.specs.Cursors.{ahead, standing, plain_row, indicator_at, opening, following, next_cursor}
-use Rattle.sweeps.specs.Quick.{Framed, Noted, Notable, NotedOne, Indicates, ElementsOf, BodySwept, FormatSwept, KnownSwept, EnvelopeSwept, StandsAt}
+use Rattle.sweeps.specs.Quick.{Passed, Framed, Noted, NotedOne, Indicates, ElementsOf, BodySwept, FormatSwept, KnownSwept, EnvelopeSwept, StandsAt}
 use Rattle.sweeps.proofs.ElementEnds.{neither}
 use Rattle.sweeps.proofs.Framing.{byte_behind, digit_behind}
 
@@ -112,9 +110,6 @@ module _ (m : Bytes) (framed : Framed m) (from at rows end : ℕ) (inside : at <
   abbrev text_row : Cursor
   text_row = standing Body 7 at (end - at)
 
-  pub text_notable : (row : ℕ) (c : Cursor) → c ≡ text_row → row ≤ most_rows → Notable row c
-  text_notable row c same few = subst (Notable row) (sym same) (record { few = omega arith; inside = omega (arith, framed.short); known = omega arith })
-
   text_here : opening m 7 at (rule_of widest 7) ≡ text_row
   unfolding rule_of opening
   text_here = let long : seek RS (drop at m) ≡ end - at = omega arith in ap (standing Body 7 at) long
@@ -171,9 +166,6 @@ module _ (m : Bytes) (framed : Framed m) (from at rows f : ℕ) (is : Indicates 
   indicator_next : next_cursor m indicator_row ≡ opening m f (at + 2) (rule_of widest f)
   unfolding next_cursor following
   indicator_next = let there : ahead m at 2 ≡ at + 2 = omega (arith, is.more, length-take 2 (drop at m), length-drop at m) in ap (λ e. opening m f e (rule_of widest f)) there
-
-  pub indicator_notable : (c : Cursor) → c ≡ indicator_row → rows ≤ most_rows → Notable rows c
-  indicator_notable c same few = subst (Notable rows) (sym same) (record { few = omega arith; inside = omega (arith, is.more, framed.short); known = is.known })
 
   pub format_due : (old new : List ℕ) (c : Cursor) → c ≡ indicator_row → Noted m from old rows (indicator_at m at) → NotedOne from old new rows c
       → Noted m from new (rows + 1) (opening m f (at + 2) (rule_of widest f))

@@ -30,15 +30,15 @@ module _ (i : ℕ) (other : ((((eqb i 8 || eqb i 9) || eqb i 10) || eqb i 1) || 
       by false false false false false h8 h9 h10 h1 h6 is =
           sym (ap (λ test. test p) (plain_column v i (eqb-false i 8 h8) (eqb-false i 9 h9) (eqb-false i 10 h10) (λ j. h1 j || h6 j))) ∙ ok
 
-  version_sized : (v : Version) → fits_in (version_row v) i (length p) ≡ field v i p
+  version_sized : (v : Version) → fits_in v i (length p) ≡ field v i p
   unfolding field long_as
   version_sized v =
       let long : Bool = leb (limit_of (version_row v) i).0 (length p) && leb (length p) (limit_of (version_row v) i).1 in
       (λ j. sym (and_true long) j || (leb least_fields i && no_bytes p j)) ∙ ap (λ t. (long && t) || (leb least_fields i && is_empty p)) (sym (column v))
 
   pub field_sized : (k : Kind) (n : ℕ) → length p ≡ n → size_fits k i n ≡ true → piece_test k i p ≡ true
-  field_sized Fields02 n long fits = sym (version_sized Version02) ∙ ap (fits_in 0 i) long ∙ fits
-  field_sized Fields96 n long fits = sym (version_sized Version96) ∙ ap (fits_in 1 i) long ∙ fits
+  field_sized Fields02 n long fits = sym (version_sized Version02) ∙ ap (fits_in Version02 i) long ∙ fits
+  field_sized Fields96 n long fits = sym (version_sized Version96) ∙ ap (fits_in Version96 i) long ∙ fits
   field_sized Segments03 n long fits = absurd (false≢true fits)
   field_sized Segments04 n long fits = absurd (false≢true fits)
   field_sized Elements05 n long fits = absurd (false≢true fits)

@@ -5,7 +5,7 @@ use mathlib.Core.Path.{◌≡◌, refl, sym, ap, ◌∙◌, subst}
 use mathlib.Core.Bool.{Bool, true, false, not, ◌&&◌, ◌||◌, true≢false}
 use mathlib.Core.List.{List, [], ◌∷◌, ◌++◌}
 use native.Mathlib.Omega.{arith}
-use borrow.Author.Tests.{le-leb, lt-ltb, ltb-false, eqb-true, eqb-false, eq-eqb}
+use borrow.Author.Tests.{le-leb, lt-ltb, eq-eqb}
 use lib.ListN.{length, get_or, take, drop}
 use lib.Dec.{leb, ltb, eqb}
 use Rattle.label.specs.Bytes.{Bytes, GS, RS, plain, every, is_empty}
@@ -25,7 +25,7 @@ use Rattle.bodies.proofs.RuleLaws.{fields_law}
 use Rattle.envelope.specs.Judged.{Judged, closed_at}
 use Rattle.walk.specs.declared.Stage.TheVariants.{Piece}
 use Rattle.walk.specs.declared.Cursor.{Cursor}
-use Rattle.walk.specs.Cursors.{standing, plain_row, indicator_at, next_cursor}
+use Rattle.walk.specs.Cursors.{standing, plain_row, next_cursor}
 use Rattle.sweeps.specs.Quick.{Framed, PassesTo, Noted, NotedOne, BodySwept}
 use Rattle.sweeps.specs.Transport.{FieldsOf, LastRight}
 use Rattle.sweeps.proofs.Framing.{byte_behind}
@@ -38,17 +38,6 @@ use Rattle.sweeps.proofs.Sweeping.{piece_noted, piece_next, piece_last}
 last_behind : (p : Bytes) (ps : List Bytes) → is_empty ps ≡ false → last_is_empty (p ∷ ps) ≡ last_is_empty ps
 last_behind p [] some = absurd (true≢false some)
 last_behind p (q ∷ ps) some = refl
-
--- the last is right by the tests that the code makes
-pub last_right : (most count size : ℕ) → ((ltb count 5 || ltb most count) || (not (eqb count 5) && eqb size 0)) ≡ false → LastRight most count size
-last_right most count size is = by (ltb count 5) (ltb most count) (eqb count 5) (eqb size 0) refl refl refl refl is
-  where
-    by : (s t u w : Bool) → ltb count 5 ≡ s → ltb most count ≡ t → eqb count 5 ≡ u → eqb size 0 ≡ w → ((s || t) || (not u && w)) ≡ false → LastRight most count size
-    by true t u w few many five none_there is = absurd (true≢false is)
-    by false true u w few many five none_there is = absurd (true≢false is)
-    by false false false true few many five none_there is = absurd (true≢false is)
-    by false false true w few many five none_there is = record { enough = ltb-false count 5 few; few = ltb-false most count many; some = λ none_left. eqb-true count 5 five }
-    by false false false false few many five none_there is = record { enough = ltb-false count 5 few; few = ltb-false most count many; some = λ none_left. absurd (eqb-false size 0 none_there none_left) }
 
 module _ (test : ℕ → Bytes → Bool) (most : ℕ) where
   -- the rule by how many separators there are, each one's test, and whether the last is empty
@@ -149,19 +138,19 @@ module _ (m : Bytes) (framed : Framed m) (from : ℕ) (k : Kind) (most start bef
         noted = subst (Noted m from new (rows + 1)) (piece_next m 1 at end to.runs is more) noted_on;
       }
 
-  pub fields_last : get_or m end 0 ≡ RS → (next : ℕ) → next ≡ end + 1 → LastRight most (rows + 1 - before) (end - at) → BodySwept m from k start before (record { next = next; rows = rows + 1 }) new
-  fields_last is next behind right =
+  pub fields_last : get_or m end 0 ≡ RS → LastRight most (rows + 1 - before) (end - at) → BodySwept m from k start before (record { next = end + 1; rows = rows + 1 }) new
+  fields_last is right =
       let more = byte_behind m framed end to.runs.inside RS is (λ e. omega arith) in
       let last =
       field_last (piece_test k) most (rows - before) _ (piece_plain m at end to.runs) to.passes
       (subst (λ (n : ℕ). LastRight most n (length (piece m at end to.runs))) (sym one_more) (subst (LastRight most (rows + 1 - before)) (sym (piece_long m at end to.runs)) right)) in
       record {
         more = omega (arith, stands.more);
-        inside = omega arith;
+        inside = more;
         closes = λ n.
-            kept_closed k n m start next (n + (rows + 1 - before))
+            kept_closed k n m start (end + 1) (n + (rows + 1 - before))
             (stands.same n
             ∙ message_last m at end to.runs (fields_from (piece_test k) most) (rows - before) (n + (rows - before)) last is
-            ∙ (λ j. closed_at (sym behind j) (more_rows n j)));
-        noted = subst (Noted m from new (rows + 1)) (piece_last m 1 at end to.runs is more ∙ ap (indicator_at m) (sym behind)) noted_on;
+            ∙ ap (closed_at (end + 1)) (more_rows n));
+        noted = subst (Noted m from new (rows + 1)) (piece_last m 1 at end to.runs is more) noted_on;
       }

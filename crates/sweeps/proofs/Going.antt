@@ -7,6 +7,7 @@ use mathlib.Core.List.{List}
 use native.Mathlib.Omega.{arith}
 use borrow.Author.Tests.{ne_eqb, eq-eqb, le-ltb}
 use lib.ListN.{length, get_or, drop}
+use Rattle.std.specs.Prelude.{Result, Ok, Err}
 use Rattle.label.specs.declared.Counts.{Counts}
 use Rattle.label.specs.declared.Edition.{Edition}
 use Rattle.label.specs.Bytes.{Bytes, EOT}
@@ -19,13 +20,10 @@ use Rattle.envelope.specs.Shown.{placed}
 use Rattle.judge.specs.Turns.{go, result_of, Sound, TurnSo, boundary_turn}
 use Rattle.judge.proofs.WalkLaws.{boundary_next, boundary_last, turn_closed, closed_so}
 use Rattle.judge.proofs.JudgeLaws.{judge_walk}
-use Rattle.sweeps.specs.declared.Passed.{Passed}
-use Rattle.sweeps.specs.declared.Wanted.{Wanted}
-use Rattle.sweeps.specs.declared.Swept.{Swept}
-use Rattle.sweeps.specs.declared.Swept.TheVariants.{Good, Full, Left}
+use Rattle.sweeps.specs.declared.Unswept.{Unswept}
 use Rattle.walk.specs.Cursors.{indicator_at, first_cursor}
 use Rattle.sweeps.proofs.Framing.{more_behind}
-use Rattle.sweeps.specs.Quick.{Headed, Kept, Noted, EnvelopeSwept, FirstAt, SaysNothing, EndsSo, SweptSo}
+use Rattle.sweeps.specs.Quick.{Passed, Headed, Kept, Noted, EnvelopeSwept, FirstAt, EndsSo, SweptSo}
 
 abbrev state_of : ℕ → Bool → ℕ → ℕ → State
 state_of at first envelopes rows = record { at = at; first = first; envelopes = envelopes; rows = rows }
@@ -96,17 +94,10 @@ module _ (edition : Edition) (m : Bytes) (from : ℕ) (notes : List ℕ) (at env
       ∙ ap limited (sym (so.same ∙ going.same))
       ∙ cond_no _ _ _ (le-ltb most_rows p.rows few)
 
-  pub ended_so : get_or m p.next 0 ≡ EOT → (most : ℕ) → most ≤ most_rows → (r : Swept) → EndsSo m p.next (envelopes + 1) p.rows most r → SweptSo edition m (record { from = from; most = most }) new r
-  ended_so is most within (Good counts) so = record {
+  pub ended_so : get_or m p.next 0 ≡ EOT → (most : ℕ) → most ≤ most_rows → (r : Result Counts Unswept) → EndsSo m p.next (envelopes + 1) p.rows most r → SweptSo edition m (record { from = from; most = most }) new r
+  ended_so is most within (Ok counts) so = record {
     judged = good_end is so.0.0 (omega (arith, so.0.1)) ∙ ap Ok (sym so.1);
     few = omega (arith, so.0.1, ap (λ (c : Counts). c.rows) so.1);
     kept = subst (Kept m from new) (sym (ap (λ (c : Counts). c.rows) so.1)) swept.noted.kept;
   }
-  ended_so is most within Full so = absurd so
-  ended_so is most within Left so = tt
-
--- of a message that is left nothing is said
-pub nothing_said : (edition : Edition) (m : Bytes) (w : Wanted) (notes : List ℕ) (r : Swept) → SaysNothing r → SweptSo edition m w notes r
-nothing_said edition m w notes (Good counts) so = absurd so
-nothing_said edition m w notes Full so = tt
-nothing_said edition m w notes Left so = tt
+  ended_so is most within (Err why) so = tt

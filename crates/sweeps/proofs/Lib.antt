@@ -12,3 +12,4 @@ pub mod SegmentTurns
 pub mod FieldTurns
 pub mod TransportLaws
 pub mod FieldSizes
+pub mod PieceSweeps

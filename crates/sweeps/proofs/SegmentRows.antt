@@ -17,9 +17,8 @@ use Rattle.leaves.specs.Seek.{tally_of}
 use Rattle.leaves.proofs.Turns.{drop_step, tally_behind}
 use Rattle.walk.specs.declared.Stage.TheVariants.{Tag, LaterElement, FurtherSubElement}
 use Rattle.walk.specs.declared.Cursor.{Cursor}
-use Rattle.sweeps.specs.declared.Passed.{Passed}
 use Rattle.walk.specs.Cursors.{ahead, plain_run, standing, plain_row, after_segment, after_sub_element, following, next_cursor}
-use Rattle.sweeps.specs.Quick.{Framed, RunsTo, Noted, NotedOne}
+use Rattle.sweeps.specs.Quick.{Passed, Framed, RunsTo, Noted, NotedOne}
 use Rattle.sweeps.specs.Segments.{stage_behind, in_segment, later_rows, TagTo, LaterSwept, SegmentSwept}
 use Rattle.walk.proofs.Offsets.{ahead_inside}
 use Rattle.sweeps.proofs.Framing.{more_behind, byte_behind}
@@ -123,9 +122,6 @@ pub record Rowing (m : Bytes) (from f start before : ℕ) (notes : List ℕ) (en
   pub permitted : every in_segment bytes ≡ true
   pub counts : rows ≡ before + later_rows bytes
   pub noted : Noted m from notes rows (after_sub_element m f end)
-
-pub rowing_first : (m : Bytes) (from f start before : ℕ) (notes : List ℕ) → start < length m → Noted m from notes before (after_sub_element m f start) → Rowing m from f start before notes start before
-rowing_first m from f start before notes inside noted = record { bytes = []; there = refl; behind = omega arith; inside = inside; permitted = refl; counts = omega arith; noted = noted }
 
 module _ (m : Bytes) (framed : Framed m) (from f start before : ℕ) (notes : List ℕ) (end rows : ℕ) (stands : Rowing m from f start before notes end rows) where
   pub parts_more : Parts (get_or m end 0) → end + 1 < length m

@@ -32,9 +32,8 @@ use Rattle.envelope.proofs.FormatTests.{segments_body}
 use Rattle.envelope.proofs.FormatLaws.{shown_segments}
 use Rattle.walk.specs.declared.Stage.TheVariants.{Tag, ReleaseValue}
 use Rattle.walk.specs.declared.Cursor.{Cursor}
-use Rattle.sweeps.specs.declared.Passed.{Passed}
 use Rattle.walk.specs.Cursors.{ahead, standing, plain_row, indicator_at, opening, after_segment, following, next_cursor}
-use Rattle.sweeps.specs.Quick.{Framed, Noted, NotedOne, BodySwept, FormatSwept}
+use Rattle.sweeps.specs.Quick.{Passed, Framed, Noted, NotedOne, BodySwept, FormatSwept}
 use Rattle.sweeps.specs.Segments.{segments_kind, in_segment, later_rows, SegmentSwept}
 use Rattle.walk.proofs.Offsets.{ahead_inside}
 use Rattle.sweeps.proofs.Framing.{byte_behind}
@@ -141,15 +140,6 @@ pub record Segmenting (m : Bytes) (from f start before : ℕ) (notes : List ℕ)
   pub some : Bool
   pub same : (n : ℕ) → rest_found f false n m start ≡ rest_found f some (n + (rows - before)) m at
   pub noted : Noted m from notes rows (plain_row m Tag f at)
-
-pub segmenting_first : (m : Bytes) (from f start before : ℕ) (notes : List ℕ) → start < length m → Noted m from notes before (plain_row m Tag f start) → Segmenting m from f start before notes start before
-segmenting_first m from f start before notes inside noted = record {
-  inside = inside;
-  more = omega arith;
-  some = false;
-  same = λ n. let none : n ≡ n + (before - before) = omega arith in ap (λ x. rest_found f false x m start) none;
-  noted = noted;
-}
 
 module _ (m : Bytes) (framed : Framed m) (from f start before : ℕ) (old new : List ℕ) (at rows : ℕ) (stands : Segmenting m from f start before old at rows) (p : Passed) (swept : SegmentSwept m from f at rows p new) where
   found_on : (n : ℕ) → rest_found f false n m start ≡ rest_found f true (n + (p.rows - before)) m p.next

@@ -7,16 +7,14 @@ use native.Mathlib.Omega.{arith}
 use lib.ListN.{length, get_or, drop, length-take, length-drop}
 use lib.Dec.{eqb}
 use Rattle.label.specs.Bytes.{Bytes, GS, RS, plain}
-use Rattle.label.specs.Limits.{longest, most_rows}
 use Rattle.pieces.specs.declared.Kind.{Kind}
-use Rattle.pieces.specs.declared.Kind.TheVariants.{Fields02, Fields96, Segments03, Segments04, Elements05, Elements06, Text, Elements12}
 use Rattle.pieces.specs.PieceTests.{piece_test}
 use Rattle.envelope.specs.Judged.{closed_at}
 use Rattle.walk.specs.declared.Stage.{Stage}
 use Rattle.walk.specs.declared.Stage.TheVariants.{Piece}
 use Rattle.walk.specs.declared.Cursor.{Cursor}
 use Rattle.walk.specs.Cursors.{ahead, plain_run, standing, plain_row, indicator_at, after_piece, following, next_cursor}
-use Rattle.sweeps.specs.Quick.{Framed, RunsTo, PassesTo, Noted, Notable, NotedOne, ElementsOf, BodySwept}
+use Rattle.sweeps.specs.Quick.{Framed, RunsTo, PassesTo, Noted, NotedOne, ElementsOf, BodySwept}
 use Rattle.sweeps.proofs.Framing.{byte_behind}
 use Rattle.sweeps.proofs.PieceTurns.{body_kept, kept_closed, body_on, body_last}
 
@@ -30,17 +28,6 @@ pub record Sweeping (m : Bytes) (from : ℕ) (k : Kind) (f start before : ℕ) (
 pub sweeping_first : (m : Bytes) (from : ℕ) (k : Kind) (f start before : ℕ) (notes : List ℕ) → start < length m → Noted m from notes before (plain_row m Piece f start) → Sweeping m from k f start before notes start before
 sweeping_first m from k f start before notes inside noted = record { inside = inside; more = omega arith; same = λ n. let none : n ≡ n + (before - before) = omega arith in ap (λ x. body_kept k x m start) none; noted = noted }
 
--- formats of elements are small numbers
-pub elements_known : (k : Kind) (f : ℕ) → ElementsOf k f → f ≤ 99
-elements_known Elements05 f is = omega (arith, is)
-elements_known Elements06 f is = omega (arith, is)
-elements_known Elements12 f is = omega (arith, is)
-elements_known Fields02 f is = absurd is
-elements_known Fields96 f is = absurd is
-elements_known Segments03 f is = absurd is
-elements_known Segments04 f is = absurd is
-elements_known Text f is = absurd is
-
 module _ (m : Bytes) (f at end : ℕ) (to : RunsTo plain m at end) where
   -- the row of a run of plain bytes
   pub run_row : (stage : Stage) → standing stage f at (end - at) ≡ plain_row m stage f at
@@ -49,10 +36,6 @@ module _ (m : Bytes) (f at end : ℕ) (to : RunsTo plain m at end) where
 
   pub run_ahead : ahead m at (end - at) ≡ end
   run_ahead = omega (arith, length-take (end - at) (drop at m), length-drop at m, to.runs, to.inside)
-
-  -- a row of so many bytes fits the notes
-  pub run_notable : (stage : Stage) (row : ℕ) → length m ≤ longest → f ≤ 99 → row ≤ most_rows → Notable row (standing stage f at (end - at))
-  run_notable stage row short known few = record { few = omega arith; inside = omega (arith, to.runs, to.inside); known = known }
 
   -- what stands behind it: another element, or the next indicator
   pub piece_next : get_or m end 0 ≡ GS → end + 1 < length m → next_cursor m (standing Piece f at (end - at)) ≡ plain_row m Piece f (end + 1)

@@ -1,19 +1,17 @@
 -- Format 01 by offsets: its version's row and the fields behind it, what is found by each version, and that this is what reading the first envelope shows.
 use Prim.Native.Nat.{ℕ, ◌+◌, ◌-◌, ◌≤◌, ◌<◌}
 use mathlib.Core.Path.{◌≡◌, refl, sym, ap, ◌∙◌, subst}
-use mathlib.Core.Bool.{Bool, true, false, not, ◌&&◌, ◌||◌, cond, true≢false}
+use mathlib.Core.Bool.{Bool, true, false, not, ◌||◌, cond, true≢false}
 use mathlib.Core.List.{List, ◌∷◌}
 use native.Mathlib.Omega.{arith}
-use borrow.Author.Tests.{leb-false, ltb-false, eqb-true}
+use borrow.Author.Tests.{ltb-false, eqb-true}
 use lib.ListN.{length, get_or, drop}
-use lib.Dec.{leb, ltb, eqb}
+use lib.Dec.{ltb, eqb}
 use Rattle.label.specs.declared.Reason.TheVariants.{BadFormatHeader}
 use Rattle.label.specs.Bytes.{Bytes, ascii, GS}
-use Rattle.label.specs.Limits.{longest, most_rows}
 use Rattle.label.specs.Formats.{widest, rule_of}
 use Rattle.label.specs.ReadEnvelope.{read_by}
 use Rattle.label.specs.ReadMessage.{agreement}
-use Rattle.label.proofs.Tests.{both}
 use Rattle.leaves.proofs.Turns.{drop_step}
 use Rattle.pieces.specs.declared.Kind.{Kind}
 use Rattle.pieces.specs.declared.Kind.TheVariants.{Fields02, Fields96}
@@ -24,27 +22,24 @@ use Rattle.envelope.specs.Shown.{shown}
 use Rattle.envelope.proofs.FormatLaws.{shown_transport}
 use Rattle.walk.specs.declared.Stage.TheVariants.{VersionValue, Piece}
 use Rattle.walk.specs.declared.Cursor.{Cursor}
-use Rattle.sweeps.specs.declared.Passed.{Passed}
 use Rattle.walk.specs.Cursors.{standing, plain_row, opening, following, next_cursor}
-use Rattle.sweeps.specs.Quick.{Noted, Notable, NotedOne, FirstAt, BodySwept, FormatSwept}
+use Rattle.sweeps.specs.Quick.{Passed, Noted, NotedOne, FirstAt, BodySwept, FormatSwept}
 use Rattle.walk.proofs.Offsets.{ahead_inside}
 
--- what the code asks first: the envelope is the first one, a row more is wanted, and there is room for the version and a byte behind it
-pub record Begins (m : Bytes) (at rows most : ℕ) : Type 0 where
+-- what the code asks first: the envelope is the first one, and there is room for the version and a byte behind it
+pub record Begins (m : Bytes) (at : ℕ) : Type 0 where
   pub first : at ≡ 6
-  pub few : rows < most
   pub long : 10 ≤ length m
 
-pub begins : (m : Bytes) (at rows most : ℕ) → ((not (eqb at 6) || leb most rows) || ltb (length m) 10) ≡ false → Begins m at rows most
-begins m at rows most is = by (eqb at 6) (leb most rows) (ltb (length m) 10) refl refl refl is
+pub begins : (m : Bytes) (at : ℕ) → (not (eqb at 6) || ltb (length m) 10) ≡ false → Begins m at
+begins m at is = by (eqb at 6) (ltb (length m) 10) refl refl is
   where
-    by : (s t u : Bool) → eqb at 6 ≡ s → leb most rows ≡ t → ltb (length m) 10 ≡ u → ((not s || t) || u) ≡ false → Begins m at rows most
-    by false t u p q r is = absurd (true≢false is)
-    by true true u p q r is = absurd (true≢false is)
-    by true false true p q r is = absurd (true≢false is)
-    by true false false p q r is = record { first = eqb-true at 6 p; few = leb-false most rows q; long = ltb-false (length m) 10 r }
+    by : (s u : Bool) → eqb at 6 ≡ s → ltb (length m) 10 ≡ u → (not s || u) ≡ false → Begins m at
+    by false u p r is = absurd (true≢false is)
+    by true true p r is = absurd (true≢false is)
+    by true false p r is = record { first = eqb-true at 6 p; long = ltb-false (length m) 10 r }
 
-module _ (m : Bytes) (at rows most : ℕ) (ready : Begins m at rows most) where
+module _ (m : Bytes) (at rows : ℕ) (ready : Begins m at) where
   pub fields_inside : at + 3 < length m
   fields_inside = omega (arith, ready.first, ready.long)
 
@@ -60,9 +55,6 @@ module _ (m : Bytes) (at rows most : ℕ) (ready : Begins m at rows most) where
       ap (plain_row m Piece 1) (sym (ahead_inside m (at + 1) 2 (omega (arith, fields_inside))) ∙ three)
 
   module _ (c : Cursor) (is : c ≡ standing VersionValue 1 (at + 1) 2) where
-    pub version_notable : length m ≤ longest → most ≤ most_rows → Notable rows c
-    version_notable short limit = subst (Notable rows) (sym is) (record { few = omega (arith, ready.few); inside = omega (arith, fields_inside); known = omega arith })
-
     pub version_noted : (from : ℕ) (old new : List ℕ) → NotedOne from old new rows c → Noted m from old rows (opening m 1 at (rule_of widest 1)) → Noted m from new (rows + 1) (plain_row m Piece 1 (at + 3))
     version_noted from old new one noted = subst (Noted m from new (rows + 1)) (ap (next_cursor m) is ∙ version_step) (one m (subst (Noted m from old rows) (version_row_lem ∙ sym is) noted))
 
@@ -84,11 +76,11 @@ module _ (m : Bytes) (at rows most : ℕ) (ready : Begins m at rows most) where
     by_version =
         ap (λ bs. cond (eqb (agreement (GS ∷ ascii "02") bs) 3) (body_found Fields02 2 m (at + 3)) (cond (eqb (agreement (GS ∷ ascii "96") bs) 3) (body_found Fields96 2 m (at + 3)) (no_envelope BadFormatHeader))) bytes_there
 
-  pub found_02 : get_or m at 0 ≡ GS → (eqb (get_or m (at + 1) 0) 0x30 && eqb (get_or m (at + 2) 0) 0x32) ≡ true → transport_found m at ≡ body_found Fields02 2 m (at + 3)
-  found_02 gs is = let k = both (eqb (get_or m (at + 1) 0) 0x30) (eqb (get_or m (at + 2) 0) 0x32) is in by_version gs 0x30 0x32 (eqb-true _ 0x30 k.left) (eqb-true _ 0x32 k.right)
+  pub found_02 : get_or m at 0 ≡ GS → get_or m (at + 1) 0 ≡ 0x30 → get_or m (at + 2) 0 ≡ 0x32 → transport_found m at ≡ body_found Fields02 2 m (at + 3)
+  found_02 gs tens units = by_version gs 0x30 0x32 tens units
 
-  pub found_96 : get_or m at 0 ≡ GS → (eqb (get_or m (at + 1) 0) 0x39 && eqb (get_or m (at + 2) 0) 0x36) ≡ true → transport_found m at ≡ body_found Fields96 2 m (at + 3)
-  found_96 gs is = let k = both (eqb (get_or m (at + 1) 0) 0x39) (eqb (get_or m (at + 2) 0) 0x36) is in by_version gs 0x39 0x36 (eqb-true _ 0x39 k.left) (eqb-true _ 0x36 k.right)
+  pub found_96 : get_or m at 0 ≡ GS → get_or m (at + 1) 0 ≡ 0x39 → get_or m (at + 2) 0 ≡ 0x36 → transport_found m at ≡ body_found Fields96 2 m (at + 3)
+  found_96 gs tens units = by_version gs 0x39 0x36 tens units
 
   -- the first envelope
   transport_shown : (first : Bool) → FirstAt (at - 2) first → shown m (read_by (rule_of widest 1) first 1 (drop at m)) ≡ transport_found m at

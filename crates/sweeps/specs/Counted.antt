@@ -7,18 +7,18 @@ use Rattle.envelope.specs.Judged.{Judged, closed_at}
 use Rattle.envelope.specs.Headers.{value_end}
 use Rattle.envelope.specs.Formats.{count_found}
 use Rattle.sweeps.specs.declared.Value.{Value}
-use Rattle.sweeps.specs.declared.Passed.{Passed}
+use Rattle.sweeps.specs.declared.Wanted.{Wanted}
 use Rattle.walk.specs.declared.Stage.{Stage}
 use Rattle.walk.specs.Cursors.{plain_row, indicator_at, following}
-use Rattle.sweeps.specs.Quick.{Framed, RunsTo, Noted}
+use Rattle.sweeps.specs.Quick.{Passed, Framed, RunsTo, Noted}
 
--- the walk stands at a header value of a format from an offset on, and there is room for so many rows
-pub record Due (m : Bytes) (from f : ℕ) (stage : Stage) (at rows room : ℕ) (notes : List ℕ) : Type 0 where
+-- the walk stands at a header value of a format from an offset on
+pub record ValueDue (m : Bytes) (w : Wanted) (f : ℕ) (stage : Stage) (at rows : ℕ) (notes : List ℕ) : Type 0 where
   pub framed : Framed m
   pub inside : at < length m
-  pub few : rows + room ≤ most_rows
+  pub few : w.most ≤ most_rows
   pub known : f ≤ 99
-  pub noted : Noted m from notes rows (plain_row m stage f at)
+  pub noted : Noted m w.from notes rows (plain_row m stage f at)
 
 -- a header value whose bytes are plain
 abbrev pub PlainBytes : Value → Type 0

@@ -1,6 +1,6 @@
 -- What the quick path keeps while it sweeps a message, and what it says when it has swept one: the judgement of the exact reader, and rows of the walk.
 -- Of what it leaves it says nothing.
-use Rattle.std.specs.Prelude.{ℕ, zero, suc, ◌+◌, ◌-◌, ◌*◌, ◌≤◌, ◌<◌, ◌≡◌, Bool, true, cond, List, [], ◌∷◌, length, get_or, take, drop, Ok}
+use Rattle.std.specs.Prelude.{ℕ, zero, suc, ◌+◌, ◌-◌, ◌*◌, ◌≤◌, ◌<◌, ◌≡◌, Bool, true, cond, List, [], ◌∷◌, length, get_or, take, drop, Result, Ok, Err, IfOk}
 use Rattle.label.specs.declared.Edition.{Edition}
 use Rattle.label.specs.declared.Counts.{Counts}
 use Rattle.label.specs.Bytes.{Bytes, EOT, plain, digit}
@@ -21,10 +21,9 @@ use Rattle.envelope.specs.Bodies.{body_found}
 use Rattle.judge.specs.Shown.{judged_as}
 use Rattle.walk.specs.declared.Stage.TheVariants.{Indicator}
 use Rattle.walk.specs.declared.Cursor.{Cursor}
-use Rattle.sweeps.specs.declared.Passed.{Passed}
 use Rattle.sweeps.specs.declared.Wanted.{Wanted}
-use Rattle.sweeps.specs.declared.Swept.{Swept}
-use Rattle.sweeps.specs.declared.Swept.TheVariants.{Good, Full, Left}
+use Rattle.sweeps.specs.declared.Unswept.{Unswept}
+use Rattle.sweeps.specs.declared.Unswept.TheVariants.{Left}
 use Rattle.walk.specs.Cursors.{run_of, standing, row_of, indicator_at, first_cursor, next_cursor}
 
 -- a message that ends with EOT: a run of bytes of a class without EOT ends before the message does
@@ -55,9 +54,10 @@ pub record PassesTo (test : Bytes → Bool) (m : Bytes) (at end : ℕ) : Type 0 
   pub runs : RunsTo plain m at end
   pub passes : test (take (end - at) (drop at m)) ≡ true
 
--- 0 says that there is none
-abbrev pub IfAny : ℕ → Type 0 → Type 0
-IfAny n fact = 0 < n → fact
+-- where the sweep goes on, and the rows gone over so far
+pub record Passed : Type 0 where
+  pub next : ℕ
+  pub rows : ℕ
 
 abbrev pub IfSo : Bool → Type 0 → Type 0
 IfSo t fact = t ≡ true → fact
@@ -102,6 +102,12 @@ pub record Notable (row : ℕ) (c : Cursor) : Type 0 where
 abbrev pub NotedOne : ℕ → List ℕ → List ℕ → ℕ → Cursor → Type 0
 NotedOne from old new row c = (m : Bytes) → Noted m from old row c → Noted m from new (row + 1) (next_cursor m c)
 
+-- a row has been gone over: it was asked for, it has been noted, and it is counted
+pub record CountedOne (w : Wanted) (row : ℕ) (old : List ℕ) (rows : ℕ) (new : List ℕ) (c : Cursor) : Type 0 where
+  pub asked : row < w.most
+  pub counted : rows ≡ row + 1
+  pub noted : NotedOne w.from old new row c
+
 -- Envelopes
 
 -- an indicator stands at an offset, with more behind it; the number of its format is f, and its row is the walk's
@@ -110,10 +116,6 @@ pub record Indicates (m : Bytes) (at f : ℕ) : Type 0 where
   pub says : indicator_of (drop at m) ≡ f
   pub row : indicator_at m at ≡ standing Indicator f at 2
   pub known : f ≤ 99
-
--- a number above 99 says that there is none
-abbrev pub IfFormat : ℕ → Type 0 → Type 0
-IfFormat n fact = n ≤ 99 → fact
 
 -- the formats of elements, by kind of body
 abbrev pub ElementsOf : Kind → ℕ → Type 0
@@ -158,27 +160,18 @@ pub record EnvelopeSwept (edition : Edition) (m : Bytes) (from at rows : ℕ) (p
 -- A message
 
 -- what is said of a swept message: the exact reader's judgement, and the rows that are kept; of a message that is left nothing
-pub record GoodSwept (edition : Edition) (m : Bytes) (w : Wanted) (counts : Counts) (notes : List ℕ) : Type 0 where
+pub record GoodSwept (edition : Edition) (m : Bytes) (w : Wanted) (notes : List ℕ) (counts : Counts) : Type 0 where
   pub judged : judged_as (reading edition m) ≡ Ok counts
   pub few : counts.rows ≤ w.most
   pub kept : Kept m w.from notes counts.rows
 
-abbrev pub SweptSo : Edition → Bytes → Wanted → List ℕ → Swept → Type 0
-SweptSo edition m w notes (Good counts) = GoodSwept edition m w counts notes
-SweptSo edition m w notes Full = Unit {0}
-SweptSo edition m w notes Left = Unit {0}
-
--- a message that is left
-abbrev pub SaysNothing : Swept → Type 0
-SaysNothing (Good counts) = ⊥
-SaysNothing Full = Unit {0}
-SaysNothing Left = Unit {0}
+abbrev pub SweptSo : Edition → Bytes → Wanted → List ℕ → Result Counts Unswept → Type 0
+SweptSo edition m w notes swept = IfOk swept (GoodSwept edition m w notes)
 
 -- the counts so far are those of a message that ends here
-abbrev pub EndsSo : Bytes → ℕ → ℕ → ℕ → ℕ → Swept → Type 0
-EndsSo m at envelopes rows most (Good counts) = ((length m ≡ at + 1) × (rows ≤ most)) × (counts ≡ record { envelopes = envelopes; rows = rows })
-EndsSo m at envelopes rows most Full = ⊥
-EndsSo m at envelopes rows most Left = Unit {0}
+abbrev pub EndsSo : Bytes → ℕ → ℕ → ℕ → ℕ → Result Counts Unswept → Type 0
+EndsSo m at envelopes rows most (Ok counts) = ((length m ≡ at + 1) × (rows ≤ most)) × (counts ≡ record { envelopes = envelopes; rows = rows })
+EndsSo m at envelopes rows most (Err why) = why ≡ Left
 
 -- a message that was swept, with all its rows in the notes
 pub record Handed (edition : Edition) (m : Bytes) (counts : Counts) (notes : List ℕ) : Type 0 where

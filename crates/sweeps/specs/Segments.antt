@@ -10,10 +10,9 @@ use Rattle.pieces.specs.declared.Kind.TheVariants.{Segments03, Segments04}
 use Rattle.walk.specs.declared.Stage.{Stage}
 use Rattle.walk.specs.declared.Stage.TheVariants.{LaterElement, FurtherSubElement}
 use Rattle.walk.specs.declared.Cursor.{Cursor}
-use Rattle.sweeps.specs.declared.Passed.{Passed}
 use Rattle.sweeps.specs.declared.Wanted.{Wanted}
 use Rattle.walk.specs.Cursors.{after_segment}
-use Rattle.sweeps.specs.Quick.{Framed, RunsTo, Noted}
+use Rattle.sweeps.specs.Quick.{Passed, Framed, RunsTo, Noted}
 
 -- the kind of body of format 03, and of 04
 abbrev pub segments_kind : ℕ → Kind

@@ -3,7 +3,6 @@
 // tried with their proofs.
 #![tactic(auto)]
 
-use label::Counts;
 use leaves::Class;
 use walk::Stage;
 
@@ -12,13 +11,6 @@ use walk::Stage;
 pub struct Wanted {
     pub from: usize,
     pub most: usize,
-}
-
-// Where the sweep goes on, 0 where it leaves the message; and the rows gone over so far.
-#[derive(Clone, Copy)]
-pub struct Passed {
-    pub next: usize,
-    pub rows: usize,
 }
 
 // What a header value of 09 or 15 has to be: its format and the stage of its row, its bytes' class, its least and its greatest length.
@@ -31,10 +23,9 @@ pub struct Value {
     pub most: usize,
 }
 
-// A good message with its counts, one with more rows than were asked for, or one that is left.
-#[derive(Clone, Copy)]
-pub enum Swept {
-    Good(Counts),
+// Why a message is left to the exact reader, which says what it is: it may have more rows than were asked for, or the sweep doesn't know at once.
+#[derive(Clone, Copy, Debug, PartialEq, Eq)]
+pub enum Unswept {
     Full,
     Left,
 }

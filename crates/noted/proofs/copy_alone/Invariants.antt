@@ -1,11 +1,7 @@
 -- `copy_alone` copies a row a turn, with ordinal 0.
-use Prim.Native.Nat.{◌-◌, ◌≤◌}
 use Rattle.noted.specs.Noted.{rows_noted}
 use Rattle.noted.proofs.Copying.{Put, zeros_of}
 use Rattle.noted.proofs.copy_alone.Given as goal
 
 abbrev pub invariant-loop-i : goal.invariant-loop-i
-invariant-loop-i l = (l.i ≤ l.rows) × Put (rows_noted l.notes) (zeros_of (rows_noted l.notes)) l.initial.table l.table l.i
-
-abbrev pub decreases-loop-i : goal.decreases-loop-i
-decreases-loop-i l = l.rows - l.i
+invariant-loop-i l = Put (rows_noted l.notes) (zeros_of (rows_noted l.notes)) l.initial.table l.table l.i

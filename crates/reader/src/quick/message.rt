@@ -1,93 +1,94 @@
 // The quick path over a whole message: its frame, then an envelope a turn, each by its format.
-ghost use Rattle.std.specs.Prelude.{◌+◌, ◌≤◌, ◌<◌, length};
+ghost use Rattle.std.specs.Prelude.{◌≡◌, ◌+◌, ◌≤◌, ◌<◌, length, IfSome, IfOk};
 ghost use Rattle.label.specs.Limits.{most_rows};
 ghost use Rattle.label.specs.Formats.{widest, rule_of};
 ghost use Rattle.walk.specs.Cursors.{indicator_at, opening};
-ghost use Rattle.sweeps.specs.Quick.{Framed, IfAny, IfFormat, Indicates, KnownSwept, EnvelopeSwept, IfSo, Headed, SaysNothing, EndsSo, SweptSo, StandsAt};
+ghost use Rattle.sweeps.specs.Quick.{Framed, Indicates, KnownSwept, EnvelopeSwept, IfSo, Headed, EndsSo, SweptSo, StandsAt};
 
-use crate::quick::counted::{sweep_count_only, sweep_counted};
-use crate::quick::elements::sweep_elements;
-use crate::quick::notes::{given_up, note};
-use crate::quick::segments::sweep_segments;
-use crate::quick::text::sweep_text;
-use crate::quick::transport::sweep_transport;
+use crate::quick::notes::Notes;
+use crate::quick::sweep::Sweep;
 use formats::{Shape, shape_in};
 use label::{Counts, Edition, HEADER_LENGTH, LONGEST};
 use leaves::EOT;
 use pieces::Kind;
-use sweeps::{Passed, Swept, Wanted};
+use sweeps::{Unswept, Wanted};
 use walk::{Stage, standing_at};
 
-// The format with a number, behind its indicator, by the shape that the edition gives it.
-fn sweep_format(
-    edition: Edition,
-    m: &[u8],
-    w: Wanted,
-    f: u32,
-    at: usize,
-    rows: usize,
-    notes: &mut [u16],
-) -> Passed
-    requires { StandsAt m.now w at rows notes.old (opening m.now f at (rule_of widest f)) }
-    ensures { IfAny result.next (KnownSwept edition m.now w.from f at rows result notes.new) }
-{
-    let shape = shape_in(edition, f as usize);
-    match shape {
-        Shape::Fields => sweep_transport(m, w, at, rows, notes),
-        Shape::Segments03 => sweep_segments(m, w, 3, at, rows, notes),
-        Shape::Segments04 => sweep_segments(m, w, 4, at, rows, notes),
-        Shape::Elements05 => sweep_elements(m, w, Kind::Elements05, 5, at, rows, notes),
-        Shape::Elements06 => sweep_elements(m, w, Kind::Elements06, 6, at, rows, notes),
-        Shape::Text => sweep_text(m, w, at, rows, notes),
-        Shape::Counted => sweep_counted(m, w, at, rows, notes),
-        Shape::Elements12 => sweep_elements(m, w, Kind::Elements12, 12, at, rows, notes),
-        Shape::CountOnly => sweep_count_only(m, w, at, rows, notes),
-        _ => given_up(rows),
-    }
-}
-
-// The number of an indicator of a format that is swept, 00 to 19; 100 where another stands there, or none. Behind a digit there is more, as the
-// message ends with EOT.
-fn format_at(m: &[u8], at: usize) -> u32
+// The number of an indicator of a format that is swept, 00 to 19, if one stands there. Behind a digit there is more, as the message ends with
+// EOT.
+fn format_at(m: &[u8], at: usize) -> Option<u32>
     requires { Framed m.now × (at + 1 < length m.now) }
-    ensures { IfFormat result (Indicates m.now at result) }
+    ensures { IfSome result (Indicates m.now at) }
 {
     let tens = m[at];
     let units = m[at + 1];
     if (units < 0x30) | (0x39 < units) {
-        return 100;
+        return None;
     }
-    let unit = (units - 0x30) as u32;
-    if tens == 0x30 {
-        return unit;
+    let unit = u32::from(units - 0x30);
+    match tens {
+        0x30 => Some(unit),
+        0x31 => Some(10 + unit),
+        _ => None,
     }
-    if tens == 0x31 {
-        return 10 + unit;
-    }
-    100
 }
 
-// An envelope: its indicator and its format.
-fn sweep_envelope(
-    edition: Edition,
-    m: &[u8],
-    w: Wanted,
-    at: usize,
-    rows: usize,
-    notes: &mut [u16],
-) -> Passed
-    requires { StandsAt m.now w at rows notes.old (indicator_at m.now at) × (at + 1 < length m.now) }
-    ensures { IfAny result.next (EnvelopeSwept edition m.now w.from at rows result notes.new) }
-{
-    if w.most <= rows {
-        return given_up(rows);
+impl Sweep<'_> {
+    // The format with a number, behind its indicator, by the shape that the edition gives it.
+    fn format(
+        &self,
+        edition: Edition,
+        f: u32,
+        at: usize,
+        notes: &mut Notes,
+    ) -> Result<usize, Unswept>
+        requires { StandsAt self.now.message.now self.now.wanted at notes.old.rows notes.old.numbers.now (opening self.now.message.now f at (rule_of widest f)) }
+        ensures swept { IfOk result (λ next. KnownSwept edition self.now.message.now self.now.wanted.from f at notes.old.rows (record { next = next; rows = notes.new.rows }) notes.new.numbers.now) }
+        ensures same { notes.new.numbers.ghost_name ≡ notes.old.numbers.ghost_name }
+    {
+        let shape = shape_in(edition, f as usize);
+        match shape {
+            Shape::Fields => self.transport(at, notes),
+            Shape::Segments03 => self.segments(3, at, notes),
+            Shape::Segments04 => self.segments(4, at, notes),
+            Shape::Elements05 => self.elements(Kind::Elements05, 5, at, notes),
+            Shape::Elements06 => self.elements(Kind::Elements06, 6, at, notes),
+            Shape::Text => self.text(at, notes),
+            Shape::Counted => self.counted(at, notes),
+            Shape::Elements12 => self.elements(Kind::Elements12, 12, at, notes),
+            Shape::CountOnly => self.count_only(at, notes),
+            _ => Err(Unswept::Left),
+        }
     }
-    let f = format_at(m, at);
-    if 99 < f {
-        return given_up(rows);
+
+    // An envelope: its indicator and its format.
+    fn envelope(&self, edition: Edition, at: usize, notes: &mut Notes) -> Result<usize, Unswept>
+        requires { StandsAt self.now.message.now self.now.wanted at notes.old.rows notes.old.numbers.now (indicator_at self.now.message.now at) × (at + 1 < length self.now.message.now) }
+        ensures swept { IfOk result (λ next. EnvelopeSwept edition self.now.message.now self.now.wanted.from at notes.old.rows (record { next = next; rows = notes.new.rows }) notes.new.numbers.now) }
+        ensures same { notes.new.numbers.ghost_name ≡ notes.old.numbers.ghost_name }
+    {
+        let f = format_at(self.message, at).ok_or(Unswept::Left)?;
+        notes.count(self.wanted, standing_at(Stage::Indicator, f, at, 2))?;
+        self.format(edition, f, at + 2, notes)
     }
-    note(notes, w.from, rows, standing_at(Stage::Indicator, f, at, 2));
-    sweep_format(edition, m, w, f, at + 2, rows + 1, notes)
+
+    // The whole message, an envelope a turn.
+    fn envelopes(&self, edition: Edition, notes: &mut Notes) -> Result<Counts, Unswept>
+        requires { ((self.now.wanted.most ≤ most_rows) × (notes.old.rows ≡ 0)) × Headed self.now.message.now }
+        ensures swept { SweptSo edition self.now.message.now self.now.wanted notes.new.numbers.now result }
+        ensures same { notes.new.numbers.ghost_name ≡ notes.old.numbers.ghost_name }
+    {
+        let m = self.message;
+        let mut at = HEADER_LENGTH;
+        let mut envelopes = 0;
+        loop {
+            at = self.envelope(edition, at, notes)?;
+            envelopes += 1;
+            if m[at] == EOT {
+                return ended(m, at, envelopes, notes.rows, self.wanted.most);
+            }
+        }
+    }
 }
 
 // Whether a message is short enough, begins with its header and ends with EOT, with a byte between them at least. Others aren't swept.
@@ -103,50 +104,27 @@ pub(crate) fn framed(m: &[u8]) -> bool
     tallies::is_headed(m) & (m[m.len() - 1] == EOT)
 }
 
-// What is said of a message that isn't swept to its end.
-fn not_swept(rows: usize, most: usize) -> Swept
-    ensures { SaysNothing result }
-{
-    if rows < most {
-        Swept::Left
-    } else {
-        Swept::Full
-    }
-}
-
 // At an EOT behind the last envelope: good if it is the message's last byte.
-fn ended(m: &[u8], at: usize, envelopes: usize, rows: usize, most: usize) -> Swept
+fn ended(m: &[u8], at: usize, envelopes: usize, rows: usize, most: usize) -> Result<Counts, Unswept>
     requires { at < length m.now }
     ensures { EndsSo m.now at envelopes rows most result }
 {
-    if most < rows {
-        return Swept::Left;
+    if (most < rows) | (m.len() - at != 1) {
+        return Err(Unswept::Left);
     }
-    if m.len() - at == 1 {
-        return Swept::Good(Counts { envelopes, rows });
-    }
-    Swept::Left
+    Ok(Counts { envelopes, rows })
 }
 
-// Sweeps a whole message that is framed, in an edition, an envelope a turn. The rows that are wanted are in the notes where it says `Good`.
-pub(crate) fn sweep(edition: Edition, m: &[u8], w: Wanted, notes: &mut [u16]) -> Swept
-    requires { (w.most ≤ most_rows) × Headed m.now }
-    ensures { SweptSo edition m.now w notes.new result }
+// Sweeps a whole message that is framed, in an edition. The rows that are wanted are in the notes where it is swept.
+pub(crate) fn sweep(
+    edition: Edition,
+    message: &[u8],
+    wanted: Wanted,
+    numbers: &mut [u16],
+) -> Result<Counts, Unswept>
+    requires { (wanted.most ≤ most_rows) × Headed message.now }
+    ensures { SweptSo edition message.now wanted numbers.new result }
 {
-    let most = w.most;
-    let mut at = HEADER_LENGTH;
-    let mut envelopes = 0;
-    let mut rows = 0;
-    loop {
-        let p = sweep_envelope(edition, m, w, at, rows, notes);
-        at = p.next;
-        rows = p.rows;
-        if at == 0 {
-            return not_swept(rows, most);
-        }
-        envelopes += 1;
-        if m[at] == EOT {
-            return ended(m, at, envelopes, rows, most);
-        }
-    }
+    let mut notes = Notes { rows: 0, numbers };
+    Sweep { message, wanted }.envelopes(edition, &mut notes)
 }

@@ -1,20 +1,19 @@
-// Notes: the rows that the sweep has gone over, in memory of its own, as four numbers each: kind, format, start and length. And the answer that gives the
-// message up.
-ghost use Rattle.std.specs.Prelude.{◌≡◌, ◌+◌, ◌≤◌, length, set};
+// Notes: the rows that the sweep has gone over, in memory that is lent, as four numbers each: kind, format, start and length.
+ghost use Rattle.std.specs.Prelude.{◌≡◌, ◌+◌, ◌<◌, ◌≤◌, length, set, IfOk};
 ghost use Rattle.label.specs.Limits.{longest};
 ghost use Rattle.noted.specs.Noted.{note_width};
 ghost use Rattle.walk.specs.Cursors.{kind_of};
-ghost use Rattle.sweeps.specs.Quick.{Notable, NotedOne};
+ghost use Rattle.sweeps.specs.Quick.{Notable, NotedOne, CountedOne};
 
 use noted::NOTE;
-use sweeps::Passed;
+use sweeps::{Unswept, Wanted};
 use walk::{Cursor, kind_of};
 
-// The message is left to the exact reader, after so many rows.
-pub(crate) fn given_up(rows: usize) -> Passed
-    ensures { result.next ≡ 0 }
-{
-    Passed { next: 0, rows }
+// So many rows gone over, and the numbers of those that are wanted, as far as there is room.
+#[derive(Drop)]
+pub(crate) struct Notes<'a> {
+    pub(crate) rows: usize,
+    pub(crate) numbers: &'a mut [u16],
 }
 
 // Puts a row's numbers into the notes, from an index on.
@@ -30,7 +29,7 @@ fn put_note(notes: &mut [u16], at: usize, c: Cursor)
 }
 
 // Notes a row if it is wanted and there is room.
-pub(crate) fn note(notes: &mut [u16], from: usize, row: usize, c: Cursor)
+fn note(notes: &mut [u16], from: usize, row: usize, c: Cursor)
     requires { Notable row c }
     ensures { NotedOne from notes.old notes.new row c }
 {
@@ -39,5 +38,22 @@ pub(crate) fn note(notes: &mut [u16], from: usize, row: usize, c: Cursor)
         if at + NOTE <= notes.len() {
             put_note(notes, at, c);
         }
+    }
+}
+
+impl Notes<'_> {
+    // Goes over a row, if there are not yet as many as were asked for.
+    pub(crate) fn count(&mut self, w: Wanted, c: Cursor) -> Result<(), Unswept>
+        requires { Notable w.most c }
+        ensures noted { IfOk result (λ u. CountedOne w self.old.rows self.old.numbers.now self.new.rows self.new.numbers.now c) }
+        ensures same { self.new.numbers.ghost_name ≡ self.old.numbers.ghost_name }
+    {
+        let row = self.rows;
+        if w.most <= row {
+            return Err(Unswept::Full);
+        }
+        note(self.numbers, w.from, row, c);
+        self.rows = row + 1;
+        Ok(())
     }
 }

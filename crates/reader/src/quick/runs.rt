@@ -1,35 +1,35 @@
 // Where a run of bytes of a class ends, and where a piece does that `pieces` takes.
-ghost use Rattle.std.specs.Prelude.{◌≡◌, false, ◌<◌, length};
+ghost use Rattle.std.specs.Prelude.{◌≡◌, false, ◌<◌, length, IfSome};
 ghost use Rattle.label.specs.Bytes.{EOT as endByte};
 ghost use Rattle.leaves.specs.Classes.{class_of};
 ghost use Rattle.pieces.specs.PieceTests.{piece_test};
-ghost use Rattle.sweeps.specs.Quick.{Framed, RunsTo, PassesTo, IfAny};
+ghost use Rattle.sweeps.specs.Quick.{Framed, RunsTo, PassesTo};
 
 use leaves::Class;
 use pieces::Kind;
 
-// Where a run of bytes of a class ends. The message's EOT is of no such class, so that no end is asked for.
+// Where a run of bytes of a class ends. The message's EOT is of no such class, so that no end is asked for: a `for`, `position` or `take_while`
+// asks at each byte and so takes 89,000 instructions or more where this takes 73,400 (docs/PERFORMANCE.md, case b; its bar is 85,100).
 pub(crate) fn run_end(m: &[u8], k: Class, at: usize) -> usize
     requires { Framed m.now × (class_of k endByte ≡ false) × (at < length m.now) }
     ensures { RunsTo (class_of k) m.now at result }
 {
     let mut i = at;
-    loop {
-        if !leaves::in_class(k, m[i]) {
-            return i;
-        }
+    while leaves::in_class(k, m[i]) {
         i += 1;
     }
+    i
 }
 
-// The end of the piece of a kind, with an index, or 0: the plain bytes from an offset on, if they are as `pieces` asks.
-pub(crate) fn piece_end(m: &[u8], k: Kind, i: usize, at: usize) -> usize
+// The end of the piece of a kind, with an index: the plain bytes from an offset on, if they are as `pieces` asks.
+pub(crate) fn piece_end(m: &[u8], k: Kind, i: usize, at: usize) -> Option<usize>
     requires { Framed m.now × (at < length m.now) }
-    ensures { IfAny result (PassesTo (piece_test k i) m.now at result) }
+    ensures { IfSome result (PassesTo (piece_test k i) m.now at) }
 {
     let end = run_end(m, Class::Plain, at);
     if pieces::piece_holds(k, i, &m[at..end]) {
-        return end;
+        Some(end)
+    } else {
+        None
     }
-    0
 }

@@ -1,18 +1,19 @@
 // The quick path over format 01: GS, the version, then fields, each by its number. What it doesn't know at once it leaves, as
 // all of the quick path does.
-ghost use Rattle.std.specs.Prelude.{◌≡◌, true, ◌<◌, length};
+ghost use Rattle.std.specs.Prelude.{◌≡◌, true, ◌<◌, length, IfSome, IfOk};
 ghost use Rattle.label.specs.Formats.{widest, rule_of};
 ghost use Rattle.pieces.specs.PieceTests.{piece_test};
-ghost use Rattle.walk.specs.Cursors.{plain_row, opening};
-ghost use Rattle.sweeps.specs.Quick.{Framed, PassesTo, IfAny, IfSo, BodySwept, FormatSwept, StandsAt};
-ghost use Rattle.sweeps.specs.Transport.{FieldsOf, LastRight, fits_in, size_fits};
+ghost use Rattle.walk.specs.Cursors.{opening};
+ghost use Rattle.sweeps.specs.Quick.{Framed, PassesTo, IfSo, FormatSwept, StandsAt};
+ghost use Rattle.sweeps.specs.Transport.{fits_in, size_fits};
 
-use crate::quick::notes::{given_up, note};
+use crate::quick::notes::Notes;
 use crate::quick::runs::{piece_end, run_end};
-use label::{HEADER_LENGTH, LEAST_FIELDS, MOST_FIELDS_02, MOST_FIELDS_96};
-use leaves::{Class, GS, RS};
+use crate::quick::sweep::Sweep;
+use label::{HEADER_LENGTH, LEAST_FIELDS, Version};
+use leaves::{Class, GS};
 use pieces::Kind;
-use sweeps::{Passed, Wanted};
+use sweeps::Unswept;
 use walk::{Stage, standing_at};
 
 // Where the format's indicator ends: 01 is allowed only as the first envelope.
@@ -21,12 +22,14 @@ const FIRST: usize = HEADER_LENGTH + 2;
 // Behind it stand GS, the version and a byte at least.
 const SHORTEST: usize = FIRST + 4;
 
-// Whether so many bytes are a field's length by the row of its version in the limits; a later one may have none.
-fn in_limits(row: usize, i: usize, size: usize) -> bool
-    ensures { result ≡ fits_in row i size }
+// Whether so many bytes are a field's length in a version; a later one may have none.
+fn in_limits(version: Version, i: usize, size: usize) -> bool
+    ensures { result ≡ fits_in version i size }
 {
-    let limit = limits::limits_of(row, i);
-    ((limit.0 as usize <= size) & (size <= limit.1 as usize)) | ((LEAST_FIELDS <= i) & (size == 0))
+    let limit = limits::limits_in(version, i);
+    let least = usize::from(limit.0);
+    let most = usize::from(limit.1);
+    ((least <= size) & (size <= most)) | ((LEAST_FIELDS <= i) & (size == 0))
 }
 
 // The same by the field's kind.
@@ -34,122 +37,48 @@ fn size_fits(k: Kind, i: usize, size: usize) -> bool
     ensures { IfSo result (size_fits k i size ≡ true) }
 {
     match k {
-        Kind::Fields02 => in_limits(0, i, size),
-        Kind::Fields96 => in_limits(1, i, size),
+        Kind::Fields02 => in_limits(Version::Version02, i, size),
+        Kind::Fields96 => in_limits(Version::Version96, i, size),
         _ => false,
     }
 }
 
-// The end of the field with an index, or 0. Five fields have a rule for their bytes, which `pieces` knows; of the others only the length is
+// The end of the field with an index. Five fields have a rule for their bytes, which `pieces` knows; of the others only the length is
 // asked, as their bytes are plain.
-fn field_end(m: &[u8], k: Kind, i: usize, at: usize) -> usize
+pub(crate) fn field_end(m: &[u8], k: Kind, i: usize, at: usize) -> Option<usize>
     requires { Framed m.now × (at < length m.now) }
-    ensures { IfAny result (PassesTo (piece_test k i) m.now at result) }
+    ensures { IfSome result (PassesTo (piece_test k i) m.now at) }
 {
     if (i == 8) | (i == 9) | (i == 10) | (i == 1) | (i == 6) {
         return piece_end(m, k, i, at);
     }
     let end = run_end(m, Class::Plain, at);
     if size_fits(k, i, end - at) {
-        return end;
+        return Some(end);
     }
-    0
+    None
 }
 
-// The offset behind the last field's RS, or 0 where there are fewer than five fields or too many, or the last is empty past the fifth.
-fn behind_last(limit: usize, count: usize, size: usize, next: usize) -> usize
-    ensures { IfAny result ((result ≡ next) × LastRight limit count size) }
-{
-    if (count < LEAST_FIELDS) | (limit < count) | ((count != LEAST_FIELDS) & (size == 0)) {
-        return 0;
-    }
-    next
-}
-
-// Fields from an offset on, up to an RS: a turn takes a field and the byte behind it.
-fn sweep_fields(
-    m: &[u8],
-    w: Wanted,
-    k: Kind,
-    limit: usize,
-    start: usize,
-    before: usize,
-    notes: &mut [u16],
-) -> Passed
-    requires { FieldsOf k limit × StandsAt m.now w start before notes.old (plain_row m.now Stage.Piece 1 start) }
-    ensures { IfAny result.next (BodySwept m.now w.from k start before result notes.new) }
-{
-    let mut at = start;
-    let mut rows = before;
-    while rows < w.most {
-        let end = field_end(m, k, rows - before, at);
-        if end == 0 {
-            return given_up(rows);
+impl Sweep<'_> {
+    // 01: GS, the version, then fields.
+    pub(crate) fn transport(&self, at: usize, notes: &mut Notes) -> Result<usize, Unswept>
+        requires { StandsAt self.now.message.now self.now.wanted at notes.old.rows notes.old.numbers.now (opening self.now.message.now 1 at (rule_of widest 1)) }
+        ensures swept { IfOk result (λ next. FormatSwept self.now.message.now self.now.wanted.from 1 at notes.old.rows (record { next = next; rows = notes.new.rows }) notes.new.numbers.now) }
+        ensures same { notes.new.numbers.ghost_name ≡ notes.old.numbers.ghost_name }
+    {
+        let m = self.message;
+        if (at != FIRST) | (m.len() < SHORTEST) {
+            return Err(Unswept::Left);
         }
-        let b = m[end];
-        let size = end - at;
-        note(notes, w.from, rows, standing_at(Stage::Piece, 1, at, size));
-        rows += 1;
-        if b == RS {
-            return Passed {
-                next: behind_last(limit, rows - before, size, end + 1),
-                rows,
-            };
+        if m[at] != GS {
+            return Err(Unswept::Left);
         }
-        if b != GS {
-            return given_up(rows);
+        let version = (m[at + 1], m[at + 2]);
+        notes.count(self.wanted, standing_at(Stage::VersionValue, 1, at + 1, 2))?;
+        match version {
+            (b'0', b'2') => self.pieces(Kind::Fields02, 1, at + 3, notes),
+            (b'9', b'6') => self.pieces(Kind::Fields96, 1, at + 3, notes),
+            _ => Err(Unswept::Left),
         }
-        at = end + 1;
     }
-    given_up(rows)
-}
-
-// 01: GS, the version, then fields.
-pub(crate) fn sweep_transport(
-    m: &[u8],
-    w: Wanted,
-    at: usize,
-    rows: usize,
-    notes: &mut [u16],
-) -> Passed
-    requires { StandsAt m.now w at rows notes.old (opening m.now 1 at (rule_of widest 1)) }
-    ensures { IfAny result.next (FormatSwept m.now w.from 1 at rows result notes.new) }
-{
-    if (at != FIRST) | (w.most <= rows) | (m.len() < SHORTEST) {
-        return given_up(rows);
-    }
-    if m[at] != GS {
-        return given_up(rows);
-    }
-    let tens = m[at + 1];
-    let units = m[at + 2];
-    note(
-        notes,
-        w.from,
-        rows,
-        standing_at(Stage::VersionValue, 1, at + 1, 2),
-    );
-    if (tens == 0x30) & (units == 0x32) {
-        return sweep_fields(
-            m,
-            w,
-            Kind::Fields02,
-            MOST_FIELDS_02,
-            at + 3,
-            rows + 1,
-            notes,
-        );
-    }
-    if (tens == 0x39) & (units == 0x36) {
-        return sweep_fields(
-            m,
-            w,
-            Kind::Fields96,
-            MOST_FIELDS_96,
-            at + 3,
-            rows + 1,
-            notes,
-        );
-    }
-    given_up(rows)
 }

@@ -9,8 +9,8 @@ use Rattle.reader.proofs.parts.stretch_of.Goals as goal
 pub sweep-swept-requires : goal.sweep-swept-requires
 sweep-swept-requires c = (omega arith, c.framed.ensures (c.if-not-framed.false))
 
-pub returns-in-Good : goal.returns-in-Good
-returns-in-Good c = let args = c.args in
+pub returns-in-Ok : goal.returns-in-Ok
+returns-in-Ok c = let args = c.args in
     let sweep = c.sweep-swept in
-    let kept = one_kept args.edition args.m.now args.row 1024 sweep.new.notes sweep.result c.in-Good.counts c.in-Good.is sweep.ensures (omega arith) in
-    subst (λ (s : Stretch). Lies args.edition args.m.now args.row s.start s.length) (sym c.stretch_noted.ensures) (lies_as_noted args.edition args.m.now args.row c.in-Good.counts.rows sweep.new.notes kept)
+    let kept = one_kept args.edition args.m.now args.row 1024 sweep.new.numbers c.in-Ok.counts c.in-Ok.ensures (omega arith) in
+    subst (λ (s : Stretch). Lies args.edition args.m.now args.row s.start s.length) (sym c.stretch_noted.ensures) (lies_as_noted args.edition args.m.now args.row c.in-Ok.counts.rows sweep.new.numbers kept)

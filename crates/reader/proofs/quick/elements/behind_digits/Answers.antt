@@ -18,20 +18,21 @@ pub returns-then-not-in_class : goal.returns-then-not-in_class
 returns-then-not-in_class c = let args = c.args in
     let at = c.loop-i in
     let rest : args.at + 3 - at.i ≡ suc (args.at + 3 - (at.i + 1)) = omega (arith, c.loop-i-test.true) in
-    let stops = ap (λ n. digit_run n (drop at.i args.m.now)) rest ∙ digits_by args.m.now at.i at.invariant.0.0 (args.at + 3 - (at.i + 1)) false (sym c.in_class.ensures ∙ c.if-not-in_class.true) in
-    (omega (arith, stops, at.invariant.1), at.invariant.0.0)
+    let stops = ap (λ n. digit_run n (drop at.i args.m.now)) rest ∙ digits_by args.m.now at.i at.invariant.0 (args.at + 3 - (at.i + 1)) false (sym c.in_class.ensures ∙ c.if-not-in_class.true) in
+    (omega (arith, stops, at.invariant.1), at.invariant.0)
 
 pub loop-i-preserved : goal.loop-i-preserved
 loop-i-preserved c = let args = c.args in
     let at = c.loop-i in
     let is = sym c.in_class.ensures ∙ c.if-not-in_class.false in
     let rest : args.at + 3 - at.i ≡ suc (args.at + 3 - (at.i + 1)) = omega (arith, c.loop-i-test.true) in
-    let on = ap (λ n. digit_run n (drop at.i args.m.now)) rest ∙ digits_by args.m.now at.i at.invariant.0.0 (args.at + 3 - (at.i + 1)) true is in
-    ((digit_behind args.m.now c.requires.0 at.i at.invariant.0.0 is, omega (arith, c.loop-i-test.true)), omega (arith, on, at.invariant.1))
+    let on = ap (λ n. digit_run n (drop at.i args.m.now)) rest ∙ digits_by args.m.now at.i at.invariant.0 (args.at + 3 - (at.i + 1)) true is in
+    (digit_behind args.m.now c.requires.0 at.i at.invariant.0 is, omega (arith, on, at.invariant.1))
 
 pub returns : goal.returns
 returns c = let args = c.args in
     let at = c.loop-i in
-    let none : args.at + 3 - at.i ≡ 0 = omega (arith, c.loop-i-test.false) in
+    let last : at.i ≡ args.at + 3 = omega (arith, c.loop-i-test.false, at.auto.i-end) in
+    let none : args.at + 3 - at.i ≡ 0 = omega (arith, last) in
     let done = ap (λ n. digit_run n (drop at.i args.m.now)) none in
-    (omega (arith, done, at.invariant.1), at.invariant.0.0)
+    (omega (arith, done, at.invariant.1, last), omega (arith, at.invariant.0, last))

@@ -1,12 +1,8 @@
 -- `end_of_06`: digits, a capital, and the run of plain bytes from there.
-use native.Mathlib.Omega.{arith}
 use Rattle.label.specs.Bytes.{plain, between}
 use Rattle.sweeps.proofs.ElementEnds.{behind_capital, passes_06}
 use borrow.Author.Rules.{rules}
 use Rattle.reader.proofs.quick.elements.end_of_06.Goals as goal
-
-pub returns-then-b : goal.returns-then-b
-returns-then-b c = λ some. absurd (omega arith)
 
 pub run_end-end-requires : goal.run_end-end-requires
 unfolding plain between
@@ -16,11 +12,8 @@ run_end-end-requires c = let args = c.args in
     let inside = behind_capital args.m.now args.at digits.result digits.result c.if-b.false pre.0 digits.ensures.1 in
     search rules
 
-pub returns-then-end-capital : goal.returns-then-end-capital
-returns-then-end-capital c = λ some. absurd (omega arith)
-
 pub returns : goal.returns
-returns c = λ some.
+returns c =
     let args = c.args in
     let digits = c.behind_digits-capital in
     passes_06 args.m.now args.at c.run_end-end.result digits.result c.if-b.false digits.ensures.0 digits.ensures.1 c.run_end-end.ensures c.if-end-capital.false

@@ -1,6 +1,5 @@
 -- `piece_end`: the run of plain bytes, and what `pieces` says of them.
 use mathlib.Core.Path.{sym, ◌∙◌}
-use native.Mathlib.Omega.{arith}
 use borrow.Author.Rules.{rules}
 use Rattle.label.specs.Bytes.{plain, between}
 use Rattle.reader.proofs.quick.runs.piece_end.Goals as goal
@@ -18,7 +17,4 @@ slice_bounds-piece_holds-end c = let inside = c.run_end-end.ensures.inside in
     search rules
 
 pub returns-then-piece_holds : goal.returns-then-piece_holds
-returns-then-piece_holds c = λ some. record { runs = c.run_end-end.ensures; passes = sym c.piece_holds.ensures ∙ c.if-piece_holds.true }
-
-pub returns : goal.returns
-returns c = λ some. absurd (omega arith)
+returns-then-piece_holds c = record { runs = c.run_end-end.ensures; passes = sym c.piece_holds.ensures ∙ c.if-piece_holds.true }

@@ -1,6 +1,5 @@
 -- `field_end`: what `pieces` says of a field, or its length alone.
 use Prim.Native.Nat.{◌-◌}
-use native.Mathlib.Omega.{arith}
 use borrow.Author.Rules.{rules}
 use Rattle.label.specs.Bytes.{plain, between}
 use Rattle.sweeps.proofs.PieceTurns.{piece, piece_plain, piece_long}
@@ -19,11 +18,8 @@ pub returns-then-size_fits : goal.returns-then-size_fits
 returns-then-size_fits c = let args = c.args in
     let end = c.run_end-end in
     let p = piece args.m.now args.at end.result end.ensures in
-    λ some. record {
+    record {
       runs = end.ensures;
       passes = field_sized args.i c.if-i.false p (piece_plain args.m.now args.at end.result end.ensures) args.k (end.result - args.at)
           (piece_long args.m.now args.at end.result end.ensures) (c.size_fits.ensures c.if-size_fits.true);
     }
-
-pub returns : goal.returns
-returns c = λ some. absurd (omega arith)

@@ -1,0 +1,79 @@
+-- `transport` notes the version's row, and the fields are due behind it: what is found so is what reading format 01 as the first envelope shows.
+use Prim.Native.Nat.{ℕ, ◌+◌}
+use mathlib.Core.Path.{refl, sym, subst}
+use native.Mathlib.Omega.{arith}
+use Rattle.std.proofs.lemmas.Result.{IfOk-weaker}
+use Rattle.pieces.specs.declared.Kind.TheVariants.{Fields02, Fields96}
+use Rattle.walk.specs.declared.Stage.TheVariants.{Piece}
+use Rattle.walk.specs.Cursors.{plain_row}
+use Rattle.sweeps.specs.Quick.{BodySwept, StandsAt}
+use Rattle.sweeps.proofs.TransportLaws.{begins, fields_inside, version_noted, found_02, found_96, transport_swept}
+use Rattle.reader.proofs.quick.sweep.Sweep.transport.Goals as goal
+
+pub pieces-requires : goal.pieces-requires
+pieces-requires c = let args = c.args in
+    let s = args.self.now in
+    let m = s.message.now in
+    let pre = c.requires in
+    let ready = begins m args.at c.if-at-m.false in
+    let new = c.count.new.self in
+    let one = c.in_ok-count.ensures.noted in
+    let row = c.standing_at in (
+      refl,
+      subst (λ (n : ℕ). StandsAt m s.wanted (args.at + 3) n new.numbers.now (plain_row m Piece 1 (args.at + 3))) (sym one.counted)
+          (record {
+            framed = pre.framed;
+            inside = fields_inside m args.at args.notes.now.rows ready;
+            few = pre.few;
+            noted = version_noted m args.at args.notes.now.rows ready row.result row.ensures s.wanted.from args.notes.now.numbers.now new.numbers.now one.noted pre.noted;
+          }),
+    )
+
+pub pieces-requires-in-57-eq54 : goal.pieces-requires-in-57-eq54
+pieces-requires-in-57-eq54 c = let args = c.args in
+    let s = args.self.now in
+    let m = s.message.now in
+    let pre = c.requires in
+    let ready = begins m args.at c.if-at-m.false in
+    let new = c.count.new.self in
+    let one = c.in_ok-count.ensures.noted in
+    let row = c.standing_at in (
+      refl,
+      subst (λ (n : ℕ). StandsAt m s.wanted (args.at + 3) n new.numbers.now (plain_row m Piece 1 (args.at + 3))) (sym one.counted)
+          (record {
+            framed = pre.framed;
+            inside = fields_inside m args.at args.notes.now.rows ready;
+            few = pre.few;
+            noted = version_noted m args.at args.notes.now.rows ready row.result row.ensures s.wanted.from args.notes.now.numbers.now new.numbers.now one.noted pre.noted;
+          }),
+    )
+
+pub returns-in-48-eq50-clause-swept : goal.returns-in-48-eq50-clause-swept
+returns-in-48-eq50-clause-swept c = let args = c.args in
+    let s = args.self.now in
+    let m = s.message.now in
+    let rows = args.notes.now.rows in
+    let ready = begins m args.at c.if-at-m.false in
+    let found = found_02 m args.at rows ready c.if-m-at-ne-GS.false (omega arith) (omega arith) in
+    let rest = c.pieces in
+    let new = rest.new.notes in
+    IfOk-weaker rest.result _ _
+    (λ next so.
+    transport_swept m args.at rows ready s.wanted.from Fields02 new.numbers.now (record { next = next; rows = new.rows }) found
+    (subst (λ (n : ℕ). BodySwept m s.wanted.from Fields02 (args.at + 3) n (record { next = next; rows = new.rows }) new.numbers.now) c.in_ok-count.ensures.noted.counted so))
+    rest.ensures.swept
+
+pub returns-in-57-eq54-clause-swept : goal.returns-in-57-eq54-clause-swept
+returns-in-57-eq54-clause-swept c = let args = c.args in
+    let s = args.self.now in
+    let m = s.message.now in
+    let rows = args.notes.now.rows in
+    let ready = begins m args.at c.if-at-m.false in
+    let found = found_96 m args.at rows ready c.if-m-at-ne-GS.false (omega arith) (omega arith) in
+    let rest = c.pieces-in-57-eq54 in
+    let new = rest.new.notes in
+    IfOk-weaker rest.result _ _
+    (λ next so.
+    transport_swept m args.at rows ready s.wanted.from Fields96 new.numbers.now (record { next = next; rows = new.rows }) found
+    (subst (λ (n : ℕ). BodySwept m s.wanted.from Fields96 (args.at + 3) n (record { next = next; rows = new.rows }) new.numbers.now) c.in_ok-count.ensures.noted.counted so))
+    rest.ensures.swept

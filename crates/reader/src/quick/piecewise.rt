@@ -1,0 +1,80 @@
+// The quick path over a body of pieces, elements or fields, up to an RS.
+ghost use Rattle.std.specs.Prelude.{◌≡◌, ◌<◌, length, IfSome, IfOk};
+ghost use Rattle.pieces.specs.PieceTests.{piece_test};
+ghost use Rattle.walk.specs.Cursors.{plain_row};
+ghost use Rattle.sweeps.specs.Quick.{Framed, PassesTo, IfSo, BodySwept, StandsAt};
+ghost use Rattle.sweeps.specs.Transport.{PiecesOf, LastOf, LastRight};
+
+use crate::quick::elements::end_of_06;
+use crate::quick::notes::Notes;
+use crate::quick::runs::piece_end;
+use crate::quick::sweep::Sweep;
+use crate::quick::transport::field_end;
+use label::{LEAST_FIELDS, MOST_FIELDS_02, MOST_FIELDS_96};
+use leaves::{GS, RS};
+use pieces::Kind;
+use sweeps::Unswept;
+use walk::{Stage, standing_at};
+
+// The end of the piece of a kind, with an index.
+fn end_of(m: &[u8], k: Kind, i: usize, at: usize) -> Option<usize>
+    requires { Framed m.now × (at < length m.now) }
+    ensures { IfSome result (PassesTo (piece_test k i) m.now at) }
+{
+    match k {
+        Kind::Fields02 | Kind::Fields96 => field_end(m, k, i, at),
+        Kind::Elements06 => end_of_06(m, at),
+        _ => piece_end(m, k, i, at),
+    }
+}
+
+// Whether there are enough fields and not too many, and past the fifth the last is not empty.
+fn fields_right(most: usize, count: usize, size: usize) -> bool
+    ensures { IfSo result (LastRight most count size) }
+{
+    (LEAST_FIELDS <= count) & (count <= most) & ((count == LEAST_FIELDS) | (size != 0))
+}
+
+// Whether so many pieces may end with one of a size. Of elements nothing is asked.
+fn last_right(k: Kind, count: usize, size: usize) -> bool
+    ensures { IfSo result (LastOf k count size) }
+{
+    match k {
+        Kind::Fields02 => fields_right(MOST_FIELDS_02, count, size),
+        Kind::Fields96 => fields_right(MOST_FIELDS_96, count, size),
+        _ => true,
+    }
+}
+
+impl Sweep<'_> {
+    // Pieces from an offset on, up to an RS: a turn takes a piece and the byte behind it, which is looked at before the piece is noted, as the
+    // sweep still has it in hand.
+    pub(crate) fn pieces(
+        &self,
+        k: Kind,
+        f: u32,
+        start: usize,
+        notes: &mut Notes,
+    ) -> Result<usize, Unswept>
+        requires { PiecesOf k f × StandsAt self.now.message.now self.now.wanted start notes.old.rows notes.old.numbers.now (plain_row self.now.message.now Stage.Piece f start) }
+        ensures swept { IfOk result (λ next. BodySwept self.now.message.now self.now.wanted.from k start notes.old.rows (record { next = next; rows = notes.new.rows }) notes.new.numbers.now) }
+        ensures same { notes.new.numbers.ghost_name ≡ notes.old.numbers.ghost_name }
+    {
+        let m = self.message;
+        let before = notes.rows;
+        let mut at = start;
+        loop {
+            let end = end_of(m, k, notes.rows - before, at).ok_or(Unswept::Left)?;
+            let b = m[end];
+            let size = end - at;
+            notes.count(self.wanted, standing_at(Stage::Piece, f, at, size))?;
+            if b == RS && last_right(k, notes.rows - before, size) {
+                return Ok(end + 1);
+            }
+            if b != GS {
+                return Err(Unswept::Left);
+            }
+            at = end + 1;
+        }
+    }
+}
