@@ -41,11 +41,7 @@ pub fn print_answer<W: Write>(out: &mut W, reading: Reading) -> io::Result<()>
     ensures { OnOk result (Appends (W.contents out.old) (W.contents out.new) (line_of (answer_of reading))) }
 {
     match reading {
-        Ok(counts) => writeln!(
-            out,
-            "{ACCEPTED} {} {}",
-            counts.envelopes, counts.rows
-        ),
+        Ok(counts) => writeln!(out, "{ACCEPTED} {} {}", counts.envelopes, counts.rows),
         Err(refusal) => {
             let number = numbers::number_of(refusal.reason);
             writeln!(out, "{number} {}", refusal.place)
