@@ -21,7 +21,7 @@ pub struct Given {
 }
 
 // The row whose numbers stand from an index on, if they all do.
-pub fn row_from(rows: &[u32], at: usize) -> Option<Given>
+pub fn row_at(rows: &[u32], at: usize) -> Option<Given>
     ensures { option_map as_row result ≡ row_at rows.now at }
 {
     match rows.get(at..)? {
@@ -35,12 +35,24 @@ pub fn row_from(rows: &[u32], at: usize) -> Option<Given>
     }
 }
 
+// The same, and zeros where they don't all stand there: there is an answer in any case, as docs/promises has it.
+pub fn row_from(rows: &[u32], at: usize) -> Given
+    ensures { as_row result ≡ row_or_none rows.now at }
+{
+    row_at(rows, at).unwrap_or(Given {
+        kind: 0,
+        format: 0,
+        start: 0,
+        length: 0,
+    })
+}
+
 // Whether every row's stretch lies in the data. Two 32-bit numbers are added as 64-bit ones, so that nothing wraps.
 fn all_inside(held: &[u8], rows: &[u32]) -> bool
     ensures { result ≡ every (inside held.now) (rows_in rows.now) }
 {
     for numbers in rows.chunks_exact(ROW) {
-        let row = row_from(numbers, 0).unwrap();
+        let row = row_at(numbers, 0).unwrap();
         if held.len() < row.start as usize + row.length as usize {
             return false;
         }
@@ -87,7 +99,7 @@ pub fn ordinals_counted(rows: &[u32]) -> bool
 pub fn like(c: Cursor, rows: &[u32], at: usize) -> bool
     ensures { result ≡ alike_row (row_of c) (row_or_none rows.now at) }
 {
-    let Some(row) = row_from(rows, at) else {
+    let Some(row) = row_at(rows, at) else {
         return false;
     };
     let kind = walk::kind_of(c.stage);

@@ -47,8 +47,7 @@ pub fn in_class(k: Class, b: u8) -> bool
         Class::Digit => b.is_ascii_digit(),
         Class::CapitalOrDigit => b.is_ascii_uppercase() | b.is_ascii_digit(),
         Class::PlainOrGs => is_plain(b) | (b == GS),
-        // Not `matches!(b, FS | GS | US)`: reading (d) would take 577 instructions, not 553, and it is the case that misses its bar.
-        Class::SegmentByte => is_plain(b) | (b == FS) | (b == GS) | (b == US),
+        Class::SegmentByte => is_plain(b) | matches!(b, FS | GS | US),
         Class::TextByte => b.is_ascii() & !matches!(b, EOT | FS | GS | RS | US),
         Class::RestByte => b.is_ascii() & !matches!(b, RS | EOT),
     }

@@ -39,6 +39,7 @@ fn copy_alone(notes: &[u16], rows: usize, table: &mut [u32])
     }
 }
 
+// A step of one expression: `given` and `exact` have it with numbers of their own types.
 // The ordinal at a row of a kind, behind a row with an ordinal: an indicator begins the next envelope, and no kind is below its own. To ask
 // for less costs two instructions a row, to ask for the very kind four.
 fn raised_by(ordinal: u32, kind: u16) -> u32
@@ -92,7 +93,8 @@ pub fn hand_over(envelopes: usize, notes: &[u16], table: &mut [u32]) -> Reading
     Ok(Counts { envelopes, rows })
 }
 
-// The stretch of a row, by its number, of a message with so many rows, by the note of this row alone; the empty start where there is no such row.
+// The stretch of a row, by its number, of a message with so many rows, by the note of this row alone; the empty start where there is no
+// such row, as `part_of` has it.
 pub fn stretch_noted(row: usize, rows: usize, note: &[u16; NOTE]) -> Stretch
     ensures { result ≡ stretch_from row rows note.now }
 {

@@ -11,7 +11,7 @@ use label::{HEADER_LENGTH, RELEASE_LENGTH};
 use leaves::{Class, GS, RS, US};
 use walk::{Cursor, Stage, count_from, standing_at};
 
-// The byte at an index; 0 where there is none.
+// The byte at an index; 0 where there is none, as `first_cursor` and `next_cursor` have it, by which `first` and `next` promise.
 fn byte_at(m: &[u8], i: usize) -> u8
     ensures { result ≡ get_or m.now i 0 }
 {

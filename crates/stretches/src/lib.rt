@@ -29,7 +29,7 @@ fn cursor_at(m: &[u8], row: usize) -> Cursor
     c
 }
 
-// The empty start.
+// The empty start. It is no Option: `part_of` of document 01 has it so, and zielorad.h hands it on.
 fn nowhere() -> Stretch
     ensures { result ≡ record { start = 0; length = 0 } }
 {

@@ -10,7 +10,7 @@ ghost use Rattle.writer.specs.Laying.{marks_before, laid};
 
 use crate::marks::{between, ending_of};
 use arrayvec::{ArrayVec, CapacityError};
-use given::{Given, row_from};
+use given::{Given, row_at};
 use label::{HEADER, LONGEST, ROW};
 
 // Room for as many bytes as a message has at most.
@@ -53,7 +53,7 @@ pub(crate) fn lay_out(held: &[u8], rows: &[u32], out: &mut Candidate) -> Result<
     out.try_extend_from_slice(&HEADER)?;
     let mut before = None;
     for numbers in rows.chunks_exact(ROW) {
-        let row = row_from(numbers, 0).unwrap();
+        let row = row_at(numbers, 0).unwrap();
         put_row(held, before, row, out)?;
         before = Some(row);
     }

@@ -13,7 +13,7 @@ returns-then-held-row c = let held = c.args.held.now in
     let cut = c.in-Some.ensures.steps in
     let x = c.in-Some.numbers.now in
     let five = cut.1.1 ∙ at.2 in
-    let row = row_here x c.row_from.result c.unwrap-row.result five c.row_from.ensures c.unwrap-row.ensures in
+    let row = row_here x c.row_at.result c.unwrap-row.result five c.row_at.ensures c.unwrap-row.ensures in
     sym (sym at.3 ∙ ap (λ ns. every (inside held) (rows_in ns)) cut.1.0 ∙ lies_outside held x (chunks_exact_rest c.next.new.self) (as_row c.unwrap-row.result) five row c.if-held-row.true)
 
 pub loop-numbers-preserved : goal.loop-numbers-preserved
@@ -22,7 +22,7 @@ loop-numbers-preserved c = let held = c.args.held.now in
     let cut = c.in-Some.ensures.steps in
     let x = c.in-Some.numbers.now in
     let five = cut.1.1 ∙ at.2 in
-    let row = row_here x c.row_from.result c.unwrap-row.result five c.row_from.ensures c.unwrap-row.ensures in (
+    let row = row_here x c.row_at.result c.unwrap-row.result five c.row_at.ensures c.unwrap-row.ensures in (
       search rules,
       tt,
       cut.0 ∙ at.2,

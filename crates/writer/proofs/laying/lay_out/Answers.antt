@@ -29,7 +29,7 @@ put_row-requires c = let at = c.loop-numbers in
     let cut = c.in-Some.ensures.steps in
     let x = c.in-Some.numbers.now in
     let five = cut.1.1 ∙ at.invariant.2 in
-    let row = row_here x c.row_from.result c.unwrap-row.result five c.row_from.ensures c.unwrap-row.ensures in
+    let row = row_here x c.row_at.result c.unwrap-row.result five c.row_at.ensures c.unwrap-row.ensures in
     turn_inside c.args.held.now c.args.rows.now at.out.items (option_map as_row at.before) (chunks_exact_rest at.numbers-iterator) x (chunks_exact_rest c.next.new.self) (as_row c.unwrap-row.result)
     at.invariant.3 cut.1.0 five row
 
@@ -38,7 +38,7 @@ returns-in_err-put_row-clause-long c = let at = c.loop-numbers in
     let cut = c.in-Some.ensures.steps in
     let x = c.in-Some.numbers.now in
     let five = cut.1.1 ∙ at.invariant.2 in
-    let row = row_here x c.row_from.result c.unwrap-row.result five c.row_from.ensures c.unwrap-row.ensures in
+    let row = row_here x c.row_at.result c.unwrap-row.result five c.row_at.ensures c.unwrap-row.ensures in
     on_err_so c.from_residual-in_err-put_row.result
     (turn_long c.args.held.now c.args.rows.now at.out.items (option_map as_row at.before) (chunks_exact_rest at.numbers-iterator) x (chunks_exact_rest c.next.new.self) (as_row c.unwrap-row.result)
     at.invariant.3 cut.1.0 five row c.in_err-put_row.ensures.long)
@@ -48,7 +48,7 @@ loop-numbers-preserved c = let at = c.loop-numbers in
     let cut = c.in-Some.ensures.steps in
     let x = c.in-Some.numbers.now in
     let five = cut.1.1 ∙ at.invariant.2 in
-    let row = row_here x c.row_from.result c.unwrap-row.result five c.row_from.ensures c.unwrap-row.ensures in (
+    let row = row_here x c.row_at.result c.unwrap-row.result five c.row_at.ensures c.unwrap-row.ensures in (
       search rules,
       tt,
       cut.0 ∙ at.invariant.2,
