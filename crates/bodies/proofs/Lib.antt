@@ -1,3 +1,4 @@
 pub mod PieceLaws
+pub mod SplitLaws
 pub mod RuleLaws
 pub mod OneOutcome

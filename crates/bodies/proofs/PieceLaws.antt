@@ -1,7 +1,7 @@
 -- Pieces one after the other: a turn of a loop that takes the next piece, how many there are, and whether the last is empty.
 use Prim.Native.Nat.{ℕ, suc, ◌+◌, ◌-◌, ◌≤◌, ◌<◌}
 use mathlib.Core.Path.{◌≡◌, refl, sym, ap, ◌∙◌}
-use mathlib.Core.Bool.{Bool, true, false, ◌&&◌, cond, true≢false}
+use mathlib.Core.Bool.{Bool, true, false, cond, true≢false}
 use mathlib.Core.List.{List, [], ◌∷◌, ◌++◌}
 use native.Mathlib.Omega.{arith}
 use borrow.Author.Tests.{leb-true, leb-false, le-leb, lt-leb, ltb-true, ltb-false, eqb-true, eq-eqb}
@@ -12,9 +12,7 @@ use Rattle.label.specs.Bytes.{Bytes, is_empty}
 use Rattle.label.specs.Pieces.{piece_with, pieces, last_is_empty}
 use Rattle.label.proofs.Splitting.{pieces_one, pieces_front, pieces_some, last_of_terminated}
 use Rattle.leaves.specs.Seek.{seek}
-use Rattle.leaves.proofs.Turns.{and_assoc, and_true}
 use Rattle.pieces.proofs.SeekLaws.{seek_free, seek_found, seek_absent}
-use Rattle.bodies.specs.Kinds.{every_from}
 
 -- two tests of orders that say the same
 pub leb_same : (a b c d : ℕ) → (a ≤ b → c ≤ d) → (c ≤ d → a ≤ b) → leb a b ≡ leb c d
@@ -61,12 +59,6 @@ pieces_turn c s at end inside is =
 
 pub pieces_done : (c : ℕ) (s : Bytes) (at : ℕ) → length s < at → pieces_from c s at ≡ []
 pieces_done c s at over = ap (λ t. cond t (pieces c (drop at s)) []) (lt-leb at (length s) over)
-
-pub every_piece_turn : (test : ℕ → Bytes → Bool) (ok : Bool) (i : ℕ) (p : Bytes) (ps qs : List Bytes) → qs ≡ p ∷ ps → ((ok && test i p) && every_from test (i + 1) ps) ≡ (ok && every_from test i qs)
-every_piece_turn test ok i p ps qs is = sym (ap (λ l. ok && every_from test i l) is ∙ and_assoc ok (test i p) (every_from test (i + 1) ps))
-
-pub every_piece_end : (test : ℕ → Bytes → Bool) (ok : Bool) (i : ℕ) (qs : List Bytes) → qs ≡ [] → ok ≡ (ok && every_from test i qs)
-every_piece_end test ok i qs is = sym (ap (λ l. ok && every_from test i l) is ∙ and_true ok)
 
 -- The last piece
 

@@ -37,21 +37,14 @@ fn separator(k: Kind) -> u8
     }
 }
 
-// Whether each piece is as asked: one sweep, a piece a turn. Not by the library's `split`, whose contract doesn't say which pieces it gives.
+// Whether each piece is as asked. `all` stops at the first that isn't: the answer is false then, whatever pieces follow.
 fn pieces_hold(k: Kind, s: &[u8]) -> bool
     ensures { result ≡ every_from (piece_test k) 0 (pieces (separator_of k) s.now) }
 {
     let c = separator(k);
-    let mut ok = true;
-    let mut i = 0;
-    let mut at = 0;
-    while at <= s.len() {
-        let end = leaves::find(s, at, c);
-        ok = ok & pieces::piece_holds(k, i, &s[at..end]);
-        i += 1;
-        at = end + 1;
-    }
-    ok
+    s.split(|b| *b == c)
+        .enumerate()
+        .all(|(i, p)| pieces::piece_holds(k, i, p))
 }
 
 // Whether the last piece is empty: there are no bytes, or the last is the separator.
