@@ -8,7 +8,6 @@ ghost use Rattle.sweeps.specs.Quick.{FormatSwept, StandsAt};
 ghost use Rattle.sweeps.specs.Counted.{ValueDue, PlainBytes, ValueSwept, PartSwept, CountSwept};
 
 use crate::quick::notes::Notes;
-use crate::quick::runs::run_end;
 use crate::quick::sweep::Sweep;
 use label::{LEAST_COMPRESSION, LEAST_COUNT, LEAST_TYPE, MOST_COMPRESSION, MOST_COUNT, MOST_TYPE};
 use leaves::{Class, GS, RS};
@@ -25,7 +24,7 @@ impl Sweep<'_> {
         let m = self.message;
         let class = v.class;
         let stage = v.stage;
-        let end = run_end(m, class, at);
+        let end = self.run_end(class, at);
         let size = end - at;
         if (size < v.least) | (v.most < size) {
             return Err(Unswept::Left);

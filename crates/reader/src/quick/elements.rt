@@ -3,46 +3,46 @@ ghost use Rattle.std.specs.Prelude.{◌≡◌, ◌+◌, ◌<◌, length, drop, I
 ghost use Rattle.label.specs.Elements.{element06};
 ghost use Rattle.label.specs.Formats.{widest, rule_of};
 ghost use Rattle.walk.specs.Cursors.{opening};
-ghost use Rattle.sweeps.specs.Quick.{Framed, PassesTo, digit_run, ElementsOf, FormatSwept, StandsAt};
+ghost use Rattle.sweeps.specs.Quick.{PassesTo, digit_run, ElementsOf, FormatSwept, StandsAt};
 
 use crate::quick::notes::Notes;
-use crate::quick::runs::run_end;
 use crate::quick::sweep::Sweep;
 use leaves::{Class, GS};
 use pieces::Kind;
 use sweeps::Unswept;
 
-// Behind at most three digits.
-fn behind_digits(m: &[u8], at: usize) -> usize
-    requires { Framed m.now × (at < length m.now) }
-    ensures { (result ≡ at + digit_run 3 (drop at m.now)) × (result < length m.now) }
-{
-    for i in at..at + 3 {
-        if !leaves::in_class(Class::Digit, m[i]) {
-            return i;
-        }
-    }
-    at + 3
-}
-
-// The end of an element of 06: each byte is looked at once.
-pub(crate) fn end_of_06(m: &[u8], at: usize) -> Option<usize>
-    requires { Framed m.now × (at < length m.now) }
-    ensures { IfSome result (PassesTo element06 m.now at) }
-{
-    let capital = behind_digits(m, at);
-    let b = m[capital];
-    if (b < 0x41) | (0x5A < b) {
-        return None;
-    }
-    let end = run_end(m, Class::Plain, capital + 1);
-    if end < capital + 2 {
-        return None;
-    }
-    Some(end)
-}
-
 impl Sweep<'_> {
+    // Behind at most three digits.
+    fn behind_digits(&self, at: usize) -> usize
+        requires { at < length self.now.message.now }
+        ensures { (result ≡ at + digit_run 3 (drop at self.now.message.now)) × (result < length self.now.message.now) }
+    {
+        let m = self.message;
+        for i in at..at + 3 {
+            if !leaves::in_class(Class::Digit, m[i]) {
+                return i;
+            }
+        }
+        at + 3
+    }
+
+    // The end of an element of 06: each byte is looked at once.
+    pub(crate) fn end_of_06(&self, at: usize) -> Option<usize>
+        requires { at < length self.now.message.now }
+        ensures { IfSome result (PassesTo element06 self.now.message.now at) }
+    {
+        let capital = self.behind_digits(at);
+        let b = self.message[capital];
+        if (b < 0x41) | (0x5A < b) {
+            return None;
+        }
+        let end = self.run_end(Class::Plain, capital + 1);
+        if end < capital + 2 {
+            return None;
+        }
+        Some(end)
+    }
+
     // 05, 06, 12: GS, then elements.
     pub(crate) fn elements(
         &self,

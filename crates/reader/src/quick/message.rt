@@ -3,7 +3,7 @@ ghost use Rattle.std.specs.Prelude.{◌≡◌, ◌+◌, ◌≤◌, ◌<◌, leng
 ghost use Rattle.label.specs.Limits.{most_rows};
 ghost use Rattle.label.specs.Formats.{widest, rule_of};
 ghost use Rattle.walk.specs.Cursors.{indicator_at, opening};
-ghost use Rattle.sweeps.specs.Quick.{Framed, Indicates, KnownSwept, EnvelopeSwept, IfSo, Headed, EndsSo, SweptSo, StandsAt};
+ghost use Rattle.sweeps.specs.Quick.{Indicates, KnownSwept, EnvelopeSwept, IfSo, Headed, EndsSo, SweptSo, StandsAt};
 
 use crate::quick::notes::Notes;
 use crate::quick::sweep::Sweep;
@@ -14,26 +14,27 @@ use pieces::Kind;
 use sweeps::{Unswept, Wanted};
 use walk::{Stage, standing_at};
 
-// The number of an indicator of a format that is swept, 00 to 19, if one stands there. Behind a digit there is more, as the message ends with
-// EOT.
-fn format_at(m: &[u8], at: usize) -> Option<u32>
-    requires { Framed m.now × (at + 1 < length m.now) }
-    ensures { IfSome result (Indicates m.now at) }
-{
-    let tens = m[at];
-    let units = m[at + 1];
-    if (units < 0x30) | (0x39 < units) {
-        return None;
-    }
-    let unit = u32::from(units - 0x30);
-    match tens {
-        0x30 => Some(unit),
-        0x31 => Some(10 + unit),
-        _ => None,
-    }
-}
-
 impl Sweep<'_> {
+    // The number of an indicator of a format that is swept, 00 to 19, if one stands there. Behind a digit there is more, as the message ends with
+    // EOT.
+    fn format_at(&self, at: usize) -> Option<u32>
+        requires { at + 1 < length self.now.message.now }
+        ensures { IfSome result (Indicates self.now.message.now at) }
+    {
+        let m = self.message;
+        let tens = m[at];
+        let units = m[at + 1];
+        if (units < 0x30) | (0x39 < units) {
+            return None;
+        }
+        let unit = u32::from(units - 0x30);
+        match tens {
+            0x30 => Some(unit),
+            0x31 => Some(10 + unit),
+            _ => None,
+        }
+    }
+
     // The format with a number, behind its indicator, by the shape that the edition gives it.
     fn format(
         &self,
@@ -67,7 +68,7 @@ impl Sweep<'_> {
         ensures swept { IfOk result (λ next. EnvelopeSwept edition self.now.message.now self.now.wanted.from at notes.old.rows (record { next = next; rows = notes.new.rows }) notes.new.numbers.now) }
         ensures same { notes.new.numbers.ghost_name ≡ notes.old.numbers.ghost_name }
     {
-        let f = format_at(self.message, at).ok_or(Unswept::Left)?;
+        let f = self.format_at(at).ok_or(Unswept::Left)?;
         notes.count(self.wanted, standing_at(Stage::Indicator, f, at, 2))?;
         self.format(edition, f, at + 2, notes)
     }

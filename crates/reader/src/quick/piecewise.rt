@@ -2,31 +2,16 @@
 ghost use Rattle.std.specs.Prelude.{◌≡◌, ◌<◌, length, IfSome, IfOk};
 ghost use Rattle.pieces.specs.PieceTests.{piece_test};
 ghost use Rattle.walk.specs.Cursors.{plain_row};
-ghost use Rattle.sweeps.specs.Quick.{Framed, PassesTo, IfSo, BodySwept, StandsAt};
+ghost use Rattle.sweeps.specs.Quick.{PassesTo, IfSo, BodySwept, StandsAt};
 ghost use Rattle.sweeps.specs.Transport.{PiecesOf, LastOf, LastRight};
 
-use crate::quick::elements::end_of_06;
 use crate::quick::notes::Notes;
-use crate::quick::runs::piece_end;
 use crate::quick::sweep::Sweep;
-use crate::quick::transport::field_end;
 use label::{LEAST_FIELDS, MOST_FIELDS_02, MOST_FIELDS_96};
 use leaves::{GS, RS};
 use pieces::Kind;
 use sweeps::Unswept;
 use walk::{Stage, standing_at};
-
-// The end of the piece of a kind, with an index.
-fn end_of(m: &[u8], k: Kind, i: usize, at: usize) -> Option<usize>
-    requires { Framed m.now × (at < length m.now) }
-    ensures { IfSome result (PassesTo (piece_test k i) m.now at) }
-{
-    match k {
-        Kind::Fields02 | Kind::Fields96 => field_end(m, k, i, at),
-        Kind::Elements06 => end_of_06(m, at),
-        _ => piece_end(m, k, i, at),
-    }
-}
 
 // Whether there are enough fields and not too many, and past the fifth the last is not empty.
 fn fields_right(most: usize, count: usize, size: usize) -> bool
@@ -47,6 +32,18 @@ fn last_right(k: Kind, count: usize, size: usize) -> bool
 }
 
 impl Sweep<'_> {
+    // The end of the piece of a kind, with an index.
+    fn end_of(&self, k: Kind, i: usize, at: usize) -> Option<usize>
+        requires { at < length self.now.message.now }
+        ensures { IfSome result (PassesTo (piece_test k i) self.now.message.now at) }
+    {
+        match k {
+            Kind::Fields02 | Kind::Fields96 => self.field_end(k, i, at),
+            Kind::Elements06 => self.end_of_06(at),
+            _ => self.piece_end(k, i, at),
+        }
+    }
+
     // Pieces from an offset on, up to an RS: a turn takes a piece and the byte behind it, which is looked at before the piece is noted, as the
     // sweep still has it in hand.
     pub(crate) fn pieces(
@@ -64,7 +61,9 @@ impl Sweep<'_> {
         let before = notes.rows;
         let mut at = start;
         loop {
-            let end = end_of(m, k, notes.rows - before, at).ok_or(Unswept::Left)?;
+            let end = self
+                .end_of(k, notes.rows - before, at)
+                .ok_or(Unswept::Left)?;
             let b = m[end];
             let size = end - at;
             notes.count(self.wanted, standing_at(Stage::Piece, f, at, size))?;

@@ -3,33 +3,37 @@ ghost use Rattle.std.specs.Prelude.{◌≡◌, false, ◌<◌, length, IfSome};
 ghost use Rattle.label.specs.Bytes.{EOT as endByte};
 ghost use Rattle.leaves.specs.Classes.{class_of};
 ghost use Rattle.pieces.specs.PieceTests.{piece_test};
-ghost use Rattle.sweeps.specs.Quick.{Framed, RunsTo, PassesTo};
+ghost use Rattle.sweeps.specs.Quick.{RunsTo, PassesTo};
 
+use crate::quick::sweep::Sweep;
 use leaves::Class;
 use pieces::Kind;
 
-// Where a run of bytes of a class ends. The message's EOT is of no such class, so that no end is asked for: a `for`, `position` or `take_while`
-// asks at each byte and so takes 89,000 instructions or more where this takes 73,400 (docs/PERFORMANCE.md, case b; its bar is 85,100).
-pub(crate) fn run_end(m: &[u8], k: Class, at: usize) -> usize
-    requires { Framed m.now × (class_of k endByte ≡ false) × (at < length m.now) }
-    ensures { RunsTo (class_of k) m.now at result }
-{
-    let mut i = at;
-    while leaves::in_class(k, m[i]) {
-        i += 1;
+impl Sweep<'_> {
+    // Where a run of bytes of a class ends. The message's EOT is of no such class, so that no end is asked for: a `for`, `position` or `take_while`
+    // asks at each byte and so takes 89,000 instructions or more where this takes 73,400 (docs/PERFORMANCE.md, case b; its bar is 85,100).
+    pub(crate) fn run_end(&self, k: Class, at: usize) -> usize
+        requires { (class_of k endByte ≡ false) × (at < length self.now.message.now) }
+        ensures { RunsTo (class_of k) self.now.message.now at result }
+    {
+        let m = self.message;
+        let mut i = at;
+        while leaves::in_class(k, m[i]) {
+            i += 1;
+        }
+        i
     }
-    i
-}
 
-// The end of the piece of a kind, with an index: the plain bytes from an offset on, if they are as `pieces` asks.
-pub(crate) fn piece_end(m: &[u8], k: Kind, i: usize, at: usize) -> Option<usize>
-    requires { Framed m.now × (at < length m.now) }
-    ensures { IfSome result (PassesTo (piece_test k i) m.now at) }
-{
-    let end = run_end(m, Class::Plain, at);
-    if pieces::piece_holds(k, i, &m[at..end]) {
-        Some(end)
-    } else {
-        None
+    // The end of the piece of a kind, with an index: the plain bytes from an offset on, if they are as `pieces` asks.
+    pub(crate) fn piece_end(&self, k: Kind, i: usize, at: usize) -> Option<usize>
+        requires { at < length self.now.message.now }
+        ensures { IfSome result (PassesTo (piece_test k i) self.now.message.now at) }
+    {
+        let end = self.run_end(Class::Plain, at);
+        if pieces::piece_holds(k, i, &self.message[at..end]) {
+            Some(end)
+        } else {
+            None
+        }
     }
 }

@@ -3,30 +3,16 @@
 ghost use Rattle.std.specs.Prelude.{◌≡◌, ◌≤◌, ◌<◌, length, IfSome, IfOk};
 ghost use Rattle.label.specs.Formats.{widest, rule_of};
 ghost use Rattle.walk.specs.Cursors.{plain_row, opening, after_sub_element};
-ghost use Rattle.sweeps.specs.Quick.{Framed, BodySwept, FormatSwept, StandsAt};
+ghost use Rattle.sweeps.specs.Quick.{BodySwept, FormatSwept, StandsAt};
 ghost use Rattle.sweeps.specs.Segments.{stage_behind, segments_kind, TagTo, SegmentsDue, LaterSwept, SegmentSwept};
 
 use crate::quick::notes::Notes;
-use crate::quick::runs::{piece_end, run_end};
 use crate::quick::sweep::Sweep;
 use label::RELEASE_LENGTH;
 use leaves::{Class, FS, GS, RS, US};
 use pieces::Kind;
 use sweeps::Unswept;
 use walk::{Stage, standing_at};
-
-// The end of a tag that has GS or FS behind it.
-fn tag_end(m: &[u8], at: usize) -> Option<usize>
-    requires { Framed m.now × (at < length m.now) }
-    ensures { IfSome result (TagTo m.now at) }
-{
-    let end = piece_end(m, Kind::Segments03, 0, at)?;
-    let b = m[end];
-    if (b != GS) & (b != FS) {
-        return None;
-    }
-    Some(end)
-}
 
 // What the row behind a GS or a US is.
 fn stage_behind(b: u8) -> Stage
@@ -40,6 +26,19 @@ fn stage_behind(b: u8) -> Stage
 }
 
 impl Sweep<'_> {
+    // The end of a tag that has GS or FS behind it.
+    fn tag_end(&self, at: usize) -> Option<usize>
+        requires { at < length self.now.message.now }
+        ensures { IfSome result (TagTo self.now.message.now at) }
+    {
+        let end = self.piece_end(Kind::Segments03, 0, at)?;
+        let b = self.message[end];
+        if (b != GS) & (b != FS) {
+            return None;
+        }
+        Some(end)
+    }
+
     // The rows behind a tag, from its end up to the segment's FS: a turn takes a GS or a US and the plain bytes behind it.
     fn later(&self, f: u32, start: usize, notes: &mut Notes) -> Result<usize, Unswept>
         requires { SegmentsDue self.now.message.now self.now.wanted f start notes.old.rows notes.old.numbers.now (after_sub_element self.now.message.now f start) }
@@ -57,7 +56,7 @@ impl Sweep<'_> {
                 return Err(Unswept::Left);
             }
             let at = end + 1;
-            end = run_end(m, Class::Plain, at);
+            end = self.run_end(Class::Plain, at);
             let behind = m[end];
             notes.count(self.wanted, standing_at(stage_behind(b), f, at, end - at))?;
             b = behind;
@@ -70,7 +69,7 @@ impl Sweep<'_> {
         ensures swept { IfOk result (λ next. SegmentSwept self.now.message.now self.now.wanted.from f at notes.old.rows (record { next = next; rows = notes.new.rows }) notes.new.numbers.now) }
         ensures same { notes.new.numbers.ghost_name ≡ notes.old.numbers.ghost_name }
     {
-        let end = tag_end(self.message, at).ok_or(Unswept::Left)?;
+        let end = self.tag_end(at).ok_or(Unswept::Left)?;
         notes.count(self.wanted, standing_at(Stage::Tag, f, at, end - at))?;
         self.later(f, end, notes)
     }

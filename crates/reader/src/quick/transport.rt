@@ -4,11 +4,10 @@ ghost use Rattle.std.specs.Prelude.{◌≡◌, true, ◌<◌, length, IfSome, If
 ghost use Rattle.label.specs.Formats.{widest, rule_of};
 ghost use Rattle.pieces.specs.PieceTests.{piece_test};
 ghost use Rattle.walk.specs.Cursors.{opening};
-ghost use Rattle.sweeps.specs.Quick.{Framed, PassesTo, IfSo, FormatSwept, StandsAt};
+ghost use Rattle.sweeps.specs.Quick.{PassesTo, IfSo, FormatSwept, StandsAt};
 ghost use Rattle.sweeps.specs.Transport.{fits_in, size_fits};
 
 use crate::quick::notes::Notes;
-use crate::quick::runs::{piece_end, run_end};
 use crate::quick::sweep::Sweep;
 use label::{HEADER_LENGTH, LEAST_FIELDS, Version};
 use leaves::{Class, GS};
@@ -43,23 +42,23 @@ fn size_fits(k: Kind, i: usize, size: usize) -> bool
     }
 }
 
-// The end of the field with an index. Five fields have a rule for their bytes, which `pieces` knows; of the others only the length is
-// asked, as their bytes are plain.
-pub(crate) fn field_end(m: &[u8], k: Kind, i: usize, at: usize) -> Option<usize>
-    requires { Framed m.now × (at < length m.now) }
-    ensures { IfSome result (PassesTo (piece_test k i) m.now at) }
-{
-    if (i == 8) | (i == 9) | (i == 10) | (i == 1) | (i == 6) {
-        return piece_end(m, k, i, at);
-    }
-    let end = run_end(m, Class::Plain, at);
-    if size_fits(k, i, end - at) {
-        return Some(end);
-    }
-    None
-}
-
 impl Sweep<'_> {
+    // The end of the field with an index. Five fields have a rule for their bytes, which `pieces` knows; of the others only the length is
+    // asked, as their bytes are plain.
+    pub(crate) fn field_end(&self, k: Kind, i: usize, at: usize) -> Option<usize>
+        requires { at < length self.now.message.now }
+        ensures { IfSome result (PassesTo (piece_test k i) self.now.message.now at) }
+    {
+        if (i == 8) | (i == 9) | (i == 10) | (i == 1) | (i == 6) {
+            return self.piece_end(k, i, at);
+        }
+        let end = self.run_end(Class::Plain, at);
+        if size_fits(k, i, end - at) {
+            return Some(end);
+        }
+        None
+    }
+
     // 01: GS, the version, then fields.
     pub(crate) fn transport(&self, at: usize, notes: &mut Notes) -> Result<usize, Unswept>
         requires { StandsAt self.now.message.now self.now.wanted at notes.old.rows notes.old.numbers.now (opening self.now.message.now 1 at (rule_of widest 1)) }

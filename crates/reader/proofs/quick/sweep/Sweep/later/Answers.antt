@@ -26,7 +26,6 @@ run_end-end-requires c = let args = c.args in
     let s = args.self.now in
     let pre = c.requires in
     let at = c.loop-b in (
-      pre.framed,
       refl,
       parts_more s.message.now pre.framed s.wanted.from args.f args.start args.notes.now.rows at.notes.numbers.now at.end at.notes.rows at.invariant.2 (at_end s.message.now at.end at.b at.invariant.1 c.if-b.false),
     )

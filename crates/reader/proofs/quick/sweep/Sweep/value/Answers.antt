@@ -5,7 +5,7 @@ use Rattle.reader.proofs.quick.sweep.Sweep.value.Goals as goal
 
 pub run_end-end-requires : goal.run_end-end-requires
 run_end-end-requires c = let pre = c.requires in
-    (pre.0.framed, without_end (class_of c.args.v.class) pre.1, pre.0.inside)
+    (without_end (class_of c.args.v.class) pre.1, pre.0.inside)
 
 pub returns-clause-swept : goal.returns-clause-swept
 returns-clause-swept c = let args = c.args in

@@ -2,7 +2,7 @@
 use mathlib.Core.Path.{sym, ◌∙◌}
 use borrow.Author.Rules.{rules}
 use Rattle.label.specs.Bytes.{plain, between}
-use Rattle.reader.proofs.quick.runs.piece_end.Goals as goal
+use Rattle.reader.proofs.quick.sweep.Sweep.piece_end.Goals as goal
 
 pub run_end-end-requires : goal.run_end-end-requires
 unfolding plain between
