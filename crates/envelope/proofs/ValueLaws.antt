@@ -1,14 +1,17 @@
 -- Header values and the number of a count, by the tests and turns that the code makes.
 use Rattle.std.specs.Prelude.{Ok, Err}
-use Prim.Native.Nat.{ℕ, ◌+◌, ◌-◌, ◌*◌, ◌^◌, ◌≤◌, ◌<◌}
+use Prim.Native.Nat.{ℕ, suc, ◌+◌, ◌-◌, ◌*◌, ◌^◌, ◌≤◌, ◌<◌}
 use mathlib.Core.Path.{◌≡◌, refl, sym, ap, ◌∙◌}
 use mathlib.Core.Bool.{Bool, true, false, not, ◌&&◌, ◌||◌, cond}
+use mathlib.Core.List.{[], ◌∷◌}
 use native.Mathlib.Omega.{arith}
 use native.Mathlib.Numerals.{add-one}
 use native.Mathlib.Nat.{pow-succ', pow-le-pow_right}
 use borrow.Author.Tests.{leb-true, le-leb, lt-leb, lt-ltb, le-ltb, ltb-true, ltb-false}
 use lib.ListN.{length, get_or, take, drop, length-drop}
-use lib.Dec.{leb, ltb}
+use lib.Dec.{leb, ltb, eqb, eqb-zero-suc, eqb-suc-suc}
+use lib.Pointwise.{pointwise}
+use Rattle.std.proofs.lemmas.Cmp.{nat_eq_equiv}
 use Rattle.label.specs.Bytes.{Bytes, GS, every}
 use Rattle.label.specs.Values.{value_after}
 use Rattle.label.specs.ReadMessage.{agreement}
@@ -122,3 +125,14 @@ value_inside least most class m at end inside is some =
         let first : end - at ≡ n = omega arith in
         let few = leb-true n most r in
         record { start = omega arith; short = omega arith; found = e; size = ap (leb least) first ∙ q; bytes = ap (λ k. every class (take k (drop at m))) first ∙ s }
+
+-- bytes that begin with a text agree with all of it
+pub begins_text : (text bs : Bytes) → pointwise eqb text (take (length text) bs) ≡ eqb (agreement text bs) (length text)
+begins_text [] bs = refl
+begins_text (h ∷ hs) [] = sym (eqb-zero-suc (length hs))
+begins_text (h ∷ hs) (b ∷ bs) = by (eqb h b) (nat_eq_equiv.symm h b) (begins_text hs bs)
+  where
+    by : (t : Bool) → t ≡ eqb b h → pointwise eqb hs (take (length hs) bs) ≡ eqb (agreement hs bs) (length hs)
+        → (t && pointwise eqb hs (take (length hs) bs)) ≡ eqb (cond (eqb b h) (suc (agreement hs bs)) 0) (suc (length hs))
+    by true is behind = behind ∙ sym (eqb-suc-suc (agreement hs bs) (length hs)) ∙ ap (λ t. eqb (cond t (suc (agreement hs bs)) 0) (suc (length hs))) is
+    by false is behind = sym (eqb-zero-suc (length hs)) ∙ ap (λ t. eqb (cond t (suc (agreement hs bs)) 0) (suc (length hs))) is

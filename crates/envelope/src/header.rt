@@ -4,6 +4,7 @@ ghost use Rattle.label.specs.Values.{value, count_length};
 ghost use Rattle.leaves.specs.Classes.{class_of};
 ghost use Rattle.envelope.specs.Headers.{if_below, decimal_of, no_indicator, indicator_of, value_end, value_found};
 
+use crate::due::Due;
 use label::Reason;
 use leaves::{Class, GS};
 
@@ -36,25 +37,18 @@ pub(crate) fn indicator(m: &[u8], at: usize) -> Option<usize>
 }
 
 // Where a header value of 09 or 15 ends that begins at an offset: at the next GS, if its length and bytes are as they should; else 8.
-pub(crate) fn value_end(
-    m: &[u8],
-    at: usize,
-    least: usize,
-    most: usize,
-    k: Class,
-) -> Result<usize, Reason>
-    requires { at ≤ length m.now }
-    ensures { result ≡ value_found m.now (value_end least most (class_of k) m.now at) }
+pub(crate) fn value_end(due: Due, least: usize, most: usize, k: Class) -> Result<usize, Reason>
+    ensures { result ≡ value_found due.entry.message.now (value_end least most (class_of k) due.entry.message.now due.entry.at) }
 {
-    let end = leaves::find(m, at, GS);
-    if m.len() <= end {
+    let end = leaves::find(due.message, due.at, GS);
+    if due.message.len() <= end {
         return Err(Reason::BadFormatHeader);
     }
-    let size = end - at;
+    let size = end - due.at;
     if (size < least) | (most < size) {
         return Err(Reason::BadFormatHeader);
     }
-    if leaves::all_in(k, &m[at..end]) {
+    if leaves::all_in(k, due.to(end)) {
         return Ok(end);
     }
     Err(Reason::BadFormatHeader)
