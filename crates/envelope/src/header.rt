@@ -9,31 +9,24 @@ use label::Reason;
 use leaves::{Class, GS};
 
 // What a digit is worth.
+#[tactic(auto, unfolding(label::specs::Bytes::digit, label::specs::Bytes::between))]
 fn decimal(b: u8) -> Option<usize>
     ensures { result ≡ if_below 10 (decimal_of b) }
 {
-    if b < b'0' {
-        return None;
+    match b {
+        b'0'..=b'9' => Some(usize::from(b - b'0')),
+        _ => None,
     }
-    if b'9' < b {
-        return None;
-    }
-    Some(usize::from(b - b'0'))
 }
 
 // The number of the indicator at an offset.
 pub(crate) fn indicator(m: &[u8], at: usize) -> Option<usize>
     ensures { result ≡ if_below no_indicator (indicator_of (drop at m.now)) }
 {
-    if m.len() < 2 {
+    let [tens, units, ..] = m.get(at..)? else {
         return None;
-    }
-    if m.len() - 2 < at {
-        return None;
-    }
-    let tens = decimal(m[at])?;
-    let units = decimal(m[at + 1])?;
-    Some(tens * 10 + units)
+    };
+    Some(decimal(*tens)? * 10 + decimal(*units)?)
 }
 
 // Where a header value of 09 or 15 ends that begins at an offset: at the next GS, if its length and bytes are as they should; else 8.
@@ -54,26 +47,14 @@ pub(crate) fn value_end(due: Due, least: usize, most: usize, k: Class) -> Result
     Err(Reason::BadFormatHeader)
 }
 
-// The number that the digits of a count make.
+// The number that the digits of a count make; a byte below `0` adds nothing.
 pub(crate) fn digits_value(s: &[u8]) -> usize
     requires { length s.now ≤ count_length.1 }
     ensures { result ≡ value s.now }
 {
     let mut n = 0;
-    let mut i = 0;
-    while i < s.len() {
-        n = n * 10 + worth(s[i]);
-        i += 1;
+    for b in s {
+        n = n * 10 + usize::from(b.saturating_sub(b'0'));
     }
     n
-}
-
-// What a byte adds to a number: its distance from `0`.
-fn worth(b: u8) -> usize
-    ensures { result ≡ b - 0x30 }
-{
-    if b < 0x30 {
-        return 0;
-    }
-    (b - 0x30) as usize
 }
