@@ -81,7 +81,7 @@ fn judge_payload(due: Due, n: usize, rows: usize) -> Result<Found, Fault>
 fn judge_count(due: Due, rows: usize) -> Result<Found, Fault>
     ensures { result ≡ count_found rows due.entry.message.now due.entry.at }
 {
-    let end = value_end(due, LEAST_COUNT, MOST_COUNT, Class::Digit)?;
+    let end = value_end(due, LEAST_COUNT..=MOST_COUNT, Class::Digit)?;
     let n = digits_value(due.to(end));
     judge_payload(due.behind(end), n, rows)
 }
@@ -90,7 +90,7 @@ fn judge_count(due: Due, rows: usize) -> Result<Found, Fault>
 fn judge_compression(due: Due) -> Result<Found, Fault>
     ensures { result ≡ compression_found due.entry.message.now due.entry.at }
 {
-    let end = value_end(due, LEAST_COMPRESSION, MOST_COMPRESSION, Class::Plain)?;
+    let end = value_end(due, LEAST_COMPRESSION..=MOST_COMPRESSION, Class::Plain)?;
     judge_count(due.behind(end), 5)
 }
 
@@ -101,7 +101,7 @@ pub(crate) fn judge_counted(due: Due) -> Result<Found, Fault>
     if !due.begins(b"\x1D") {
         return Err(Reason::BadFormatHeader.into());
     }
-    let end = value_end(due.ahead(1), LEAST_TYPE, MOST_TYPE, Class::Plain)?;
+    let end = value_end(due.ahead(1), LEAST_TYPE..=MOST_TYPE, Class::Plain)?;
     judge_compression(due.behind(end))
 }
 

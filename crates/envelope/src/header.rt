@@ -1,5 +1,6 @@
 // Indicators and header values.
-ghost use Rattle.std.specs.Prelude.{◌≡◌, ◌-◌, ◌≤◌, length, drop};
+ghost use Rattle.std.specs.Prelude.{◌≡◌, ◌≤◌, length, drop, false};
+ghost use Rattle.std.specs.Range.{range_inclusive_start, range_inclusive_end, range_inclusive_exhausted};
 ghost use Rattle.label.specs.Values.{value, count_length};
 ghost use Rattle.leaves.specs.Classes.{class_of};
 ghost use Rattle.envelope.specs.Headers.{if_below, decimal_of, no_indicator, indicator_of, value_end, value_found};
@@ -7,6 +8,7 @@ ghost use Rattle.envelope.specs.Headers.{if_below, decimal_of, no_indicator, ind
 use crate::due::Due;
 use label::Reason;
 use leaves::{Class, GS};
+use std::ops::RangeInclusive;
 
 // What a digit is worth.
 #[tactic(auto, unfolding(label::specs::Bytes::digit, label::specs::Bytes::between))]
@@ -29,19 +31,17 @@ pub(crate) fn indicator(m: &[u8], at: usize) -> Option<usize>
     Some(decimal(*tens)? * 10 + decimal(*units)?)
 }
 
-// Where a header value of 09 or 15 ends that begins at an offset: at the next GS, if its length and bytes are as they should; else 8.
-pub(crate) fn value_end(due: Due, least: usize, most: usize, k: Class) -> Result<usize, Reason>
-    ensures { result ≡ value_found due.entry.message.now (value_end least most (class_of k) due.entry.message.now due.entry.at) }
+// Where a header value of 09 or 15 ends that begins at a place, given how long it may be and of which bytes: at the next GS; else 8.
+pub(crate) fn value_end(due: Due, sizes: RangeInclusive<usize>, k: Class) -> Result<usize, Reason>
+    requires { range_inclusive_exhausted sizes ≡ false }
+    ensures { result ≡ value_found due.entry.message.now (value_end (range_inclusive_start sizes) (range_inclusive_end sizes) (class_of k) due.entry.message.now due.entry.at) }
 {
     let end = leaves::find(due.message, due.at, GS);
     if due.message.len() <= end {
         return Err(Reason::BadFormatHeader);
     }
-    let size = end - due.at;
-    if (size < least) | (most < size) {
-        return Err(Reason::BadFormatHeader);
-    }
-    if leaves::all_in(k, due.to(end)) {
+    let value = due.to(end);
+    if sizes.contains(&value.len()) && leaves::all_in(k, value) {
         return Ok(end);
     }
     Err(Reason::BadFormatHeader)
