@@ -1,7 +1,7 @@
 -- What is found of a body, by the tests that the code makes of where the first RS is, of the bytes before it and of their rules.
 use Prim.Native.Nat.{ℕ, ◌+◌, ◌-◌, ◌≤◌, ◌<◌}
-use mathlib.Core.Path.{◌≡◌, refl, sym, ap, ◌∙◌}
-use mathlib.Core.Bool.{Bool, true, false, ◌&&◌, cond}
+use mathlib.Core.Path.{◌≡◌, sym, ◌∙◌}
+use mathlib.Core.Bool.{true, false, cond}
 use native.Mathlib.Omega.{arith}
 use borrow.Author.Tests.{lt-ltb, le-ltb}
 use lib.ListN.{length, take, drop, length-take, length-drop}
@@ -78,20 +78,3 @@ rows_few Text body = omega arith
 
 pub rows_of_part : (k : Kind) (m : Bytes) (at n : ℕ) → rows_of_body k (take n (drop at m)) ≤ length m + 1
 rows_of_part k m at n = omega (arith, rows_few k (take n (drop at m)), length-take n (drop at m), length-drop at m)
-
--- a conjunction of three, by the one that fails
-pub first_fails : {a : Bool} (b c : Bool) → a ≡ false → (a && b && c) ≡ false
-first_fails b c h = ap (λ t. t && b && c) h
-
-pub second_fails : (a : Bool) {b : Bool} (c : Bool) → b ≡ false → (a && b && c) ≡ false
-second_fails true c h = ap (λ t. t && c) h
-second_fails false c h = refl
-
-pub third_fails : (a b : Bool) {c : Bool} → c ≡ false → (a && b && c) ≡ false
-third_fails true true h = h
-third_fails true false h = refl
-third_fails false b h = refl
-
--- of two, by the first
-pub left_fails : {a : Bool} (b : Bool) → a ≡ false → (a && b) ≡ false
-left_fails b h = ap (λ t. t && b) h

@@ -1,12 +1,12 @@
 -- An indicator's number by what its two bytes are worth, and what an envelope's reading makes of it.
 use Rattle.std.specs.Prelude.{Some, None}
-use Prim.Native.Nat.{ℕ, ◌+◌, ◌-◌, ◌*◌, ◌≤◌, ◌<◌}
+use Prim.Native.Nat.{ℕ, ◌+◌, ◌-◌, ◌≤◌, ◌<◌}
 use mathlib.Core.Path.{◌≡◌, refl, sym, ap, ◌∙◌}
 use mathlib.Core.Bool.{Bool, true, false, ◌&&◌, cond}
 use mathlib.Core.List.{[], ◌∷◌}
 use native.Mathlib.Omega.{arith}
-use borrow.Author.Tests.{leb-true, le-leb, lt-leb, lt-ltb, le-ltb, ltb-true, ltb-false}
-use lib.ListN.{length, get_or, drop, length-drop}
+use borrow.Author.Tests.{leb-true, ltb-true, ltb-false}
+use lib.ListN.{length, get_or, drop}
 use lib.Dec.{leb, ltb}
 use Rattle.label.specs.declared.Reason.TheVariants.{NoIndicator}
 use Rattle.label.specs.Bytes.{Bytes, digit, between}
@@ -14,34 +14,11 @@ use Rattle.label.specs.Values.{value}
 use Rattle.label.specs.declared.Edition.{Edition}
 use Rattle.label.specs.Formats.{rule_of}
 use Rattle.label.specs.ReadEnvelope.{refuse, must, read_by, read_envelope}
-use Rattle.label.proofs.Tests.{both, right_fails, cond_yes, cond_no}
+use Rattle.label.proofs.Tests.{both, right_fails}
 use Rattle.leaves.proofs.Turns.{drop_step}
 use Rattle.envelope.specs.Headers.{if_below, decimal_of, no_indicator, indicator_of}
 
--- a digit, or none
-
-not_digit : (b : ℕ) → digit b ≡ false → 10 ≡ decimal_of b
-not_digit b h = sym (ap (λ t. cond t (b - 0x30) 10) h)
-
-pub below_digits : (b : ℕ) → b < 0x30 → 10 ≡ decimal_of b
-unfolding digit between
-below_digits b h = not_digit b (ap (λ t. t && leb b 0x39) (lt-leb 0x30 b h))
-
-pub above_digits : (b : ℕ) → 0x30 ≤ b → 0x39 < b → 10 ≡ decimal_of b
-unfolding digit between
-above_digits b l h = not_digit b (λ i. le-leb 0x30 b l i && lt-leb b 0x39 h i)
-
-pub digit_worth : (b : ℕ) → 0x30 ≤ b → b ≤ 0x39 → b - 0x30 ≡ decimal_of b
-unfolding digit between
-digit_worth b l h = sym (λ i. cond (le-leb 0x30 b l i && le-leb b 0x39 h i) (b - 0x30) 10)
-
 -- a number below a limit, or none
-pub below_some : (limit n : ℕ) → n < limit → Some n ≡ if_below limit n
-below_some limit n h = sym (cond_yes _ _ _ (lt-ltb n limit h))
-
-pub below_none : (limit n : ℕ) → limit ≤ n → None ≡ if_below limit n
-below_none limit n h = sym (cond_no _ _ _ (le-ltb n limit h))
-
 pub not_below : (limit n : ℕ) → None ≡ if_below limit n → limit ≤ n
 not_below limit n none = by (ltb n limit) refl none
   where
@@ -65,14 +42,6 @@ drop_two m at h =
     drop_step m at (omega arith)
     ∙ ap (λ r. get_or m at 0 ∷ r) (drop_step m (at + 1) (omega arith) ∙ ap (λ n. get_or m (at + 1) 0 ∷ drop n m) two)
 
-short_none : (bs : Bytes) → length bs < 2 → no_indicator ≡ indicator_of bs
-short_none [] h = refl
-short_none (a ∷ []) h = refl
-short_none (a ∷ (b ∷ bs)) h = absurd (omega arith)
-
-pub indicator_short : (m : Bytes) (at : ℕ) → length m < at + 2 → no_indicator ≡ indicator_of (drop at m)
-indicator_short m at h = short_none (drop at m) (omega (arith, length-drop at m))
-
 digit_small : (x : ℕ) → digit x ≡ true → x - 0x30 ≤ 9
 unfolding digit between
 digit_small x d = let g = leb-true x 0x39 (both (leb 0x30 x) (leb x 0x39) d).right in omega arith
@@ -88,32 +57,14 @@ module _ (m : Bytes) (at tens units : ℕ) (inside : at + 2 ≤ length m) (ten :
   unfolding a b
   by_digits s t p q = sym (ap indicator_of (drop_two m at inside) ∙ (λ i. cond (p i && q i) (value (a ∷ b ∷ [])) no_indicator))
 
-  worth : (t : Bool) (x y : ℕ) → y ≡ cond t (x - 0x30) 10 → y ≤ 9 → t ≡ true
-  worth true x y is h = refl
-  worth false x y is h = absurd (omega arith)
-
   none_by : (s : Bool) (x y : ℕ) → digit x ≡ s → y ≡ cond s (x - 0x30) 10 → 9 < y → digit x ≡ false
   none_by true x y d is h = let small = digit_small x d in absurd (omega arith)
   none_by false x y d is h = d
-
-  pub indicator_tens : 9 < tens → no_indicator ≡ indicator_of (drop at m)
-  unfolding a b
-  indicator_tens over = by_digits false (digit b) (none_by (digit a) a tens refl ten over) refl
 
   pub indicator_units : 9 < units → no_indicator ≡ indicator_of (drop at m)
   unfolding a b
   indicator_units over =
       sym (ap (λ t. cond t (value (a ∷ b ∷ [])) no_indicator) (right_fails (digit a) refl)) ∙ by_digits (digit a) false refl (none_by (digit b) b units refl unit over)
-
-  pub indicator_both : tens ≤ 9 → units ≤ 9 → tens * 10 + units ≡ indicator_of (drop at m)
-  unfolding a b
-  indicator_both t u =
-      let p = worth (digit a) a tens ten t in
-      let q = worth (digit b) b units unit u in
-      let ten' : tens ≡ a - 0x30 = ten ∙ ap (λ s. cond s (a - 0x30) 10) p in
-      let unit' : units ≡ b - 0x30 = unit ∙ ap (λ s. cond s (b - 0x30) 10) q in
-      let sum : tens * 10 + units ≡ value (a ∷ b ∷ []) = omega arith in
-      sum ∙ by_digits true true p q
 
 -- the reading of an envelope, by its indicator's number
 

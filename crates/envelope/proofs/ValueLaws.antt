@@ -1,20 +1,20 @@
 -- Header values and the number of a count, by the tests and turns that the code makes.
 use Rattle.std.specs.Prelude.{Ok, Err}
-use Prim.Native.Nat.{ℕ, ◌+◌, ◌-◌, ◌*◌, ◌^◌, ◌≤◌, ◌<◌}
+use Prim.Native.Nat.{ℕ, suc, ◌+◌, ◌-◌, ◌*◌, ◌^◌, ◌≤◌, ◌<◌}
 use mathlib.Core.Path.{◌≡◌, refl, sym, ap, ◌∙◌}
 use mathlib.Core.Bool.{Bool, true, false, not, ◌&&◌, ◌||◌, cond}
+use mathlib.Core.List.{[], ◌∷◌}
 use native.Mathlib.Omega.{arith}
-use native.Mathlib.Numerals.{add-one}
-use native.Mathlib.Nat.{pow-succ', pow-le-pow_right}
-use borrow.Author.Tests.{leb-true, le-leb, lt-leb, lt-ltb, le-ltb, ltb-true, ltb-false}
-use lib.ListN.{length, get_or, take, drop, length-drop}
-use lib.Dec.{leb, ltb}
+use native.Mathlib.Nat.{pow-le-pow_right}
+use borrow.Author.Tests.{le-leb, lt-leb, lt-ltb, ltb-true, ltb-false}
+use lib.ListN.{length, take, drop, length-drop}
+use lib.Dec.{leb, ltb, eqb, eqb-zero-suc, eqb-suc-suc}
+use lib.Pointwise.{pointwise}
+use Rattle.std.proofs.lemmas.Cmp.{nat_eq_equiv}
 use Rattle.label.specs.Bytes.{Bytes, GS, every}
-use Rattle.label.specs.Values.{value_after}
 use Rattle.label.specs.ReadMessage.{agreement}
 use Rattle.label.proofs.Places.{agreement_inside}
 use Rattle.leaves.specs.Seek.{seek}
-use Rattle.leaves.proofs.Turns.{drop_step, drop_past}
 use Rattle.envelope.specs.Headers.{value_end, value_found}
 use Rattle.envelope.specs.Judged.{Judged, no_envelope}
 use Rattle.envelope.specs.Formats.{after_value}
@@ -43,20 +43,8 @@ module _ (least most : ℕ) (class : ℕ → Bool) (m : Bytes) (at end : ℕ) (i
   here : end < length m → ltb (seek GS (drop at m)) (length (drop at m)) ≡ true
   here some = let long = length-drop at m in lt-ltb (seek GS (drop at m)) (length (drop at m)) (omega arith)
 
-  pub value_none : length m ≤ end → length m ≡ value_end least most class m at
-  value_none past =
-      let long = length-drop at m in
-      let none_left : length (drop at m) ≤ seek GS (drop at m) = omega arith in
-      by_tests false (leb least (end - at) && leb (end - at) most) (every class (take (end - at) (drop at m))) (le-ltb _ _ none_left) refl refl
-
-  pub value_size : end < length m → (ltb (end - at) least || ltb most (end - at)) ≡ true → length m ≡ value_end least most class m at
-  value_size some h = by_tests true false (every class (take (end - at) (drop at m))) (here some) (size_by true h) refl
-
   pub value_bytes_lem : end < length m → (ltb (end - at) least || ltb most (end - at)) ≡ false → every class (take (end - at) (drop at m)) ≡ true → end ≡ value_end least most class m at
   value_bytes_lem some h r = by_tests true true true (here some) (size_by false h) r
-
-  pub value_bad : end < length m → (ltb (end - at) least || ltb most (end - at)) ≡ false → every class (take (end - at) (drop at m)) ≡ false → length m ≡ value_end least most class m at
-  value_bad some h r = by_tests true true false (here some) (size_by false h) r
 
 -- what follows a header value that was found
 pub found_after : (m : Bytes) (end next : ℕ) (then : ℕ → Judged) → Ok next ≡ value_found m end → after_value m end then ≡ then (next + 1)
@@ -79,46 +67,18 @@ power_small i h = pow-le-pow_right {n = 10} (omega arith) {i = i} {j = 14} h
 pub count_small : (n i w : ℕ) → i ≤ 14 → w ≤ 207 → Bounded n i → n * 10 + w < 10000000000000000000
 count_small n i w h few bounded = omega (arith, power_small i h)
 
-pub count_bounded : (n i w : ℕ) → w ≤ 207 → Bounded n i → Bounded (n * 10 + w) (i + 1)
-count_bounded n i w few bounded = omega (arith, ap (λ k. 10 ^ k) (add-one i) ∙ pow-succ' 10 i)
-
-pub count_turn : (s : Bytes) (n i w : ℕ) → i < length s → w ≡ get_or s i 0 - 0x30 → value_after (n * 10 + w) (drop (i + 1) s) ≡ value_after n (drop i s)
-count_turn s n i w inside is =
-    let sum : n * 10 + w ≡ 10 * n + (get_or s i 0 - 0x30) = omega arith in
-    ap (λ k. value_after k (drop (i + 1) s)) sum ∙ sym (ap (value_after n) (drop_step s i inside))
-
-pub count_end : (s : Bytes) (n i : ℕ) → length s ≤ i → n ≡ value_after n (drop i s)
-count_end s n i past = sym (ap (value_after n) (drop_past s i past))
-
 -- What a header that was found says of the message's length
 
 pub begins_long : (text m : Bytes) (at : ℕ) → at ≤ length m → agreement text (drop at m) ≡ length text → at + length text ≤ length m
 begins_long text m at inside is = omega (arith, agreement_inside text (drop at m), length-drop at m)
 
-pub record Inside (least most : ℕ) (class : ℕ → Bool) (m : Bytes) (at end : ℕ) : Type 0 where
-  pub start : at ≤ end
-  pub short : end - at ≤ most
-  pub found : end ≡ at + seek GS (drop at m)
-  pub size : leb least (end - at) ≡ true
-  pub bytes : every class (take (end - at) (drop at m)) ≡ true
-
--- a header value that ends before the message does is as it should be
-pub value_inside : (least most : ℕ) (class : ℕ → Bool) (m : Bytes) (at end : ℕ) → at ≤ length m → end ≡ value_end least most class m at → end < length m → Inside least most class m at end
-value_inside least most class m at end inside is some =
-    by (ltb n (length (drop at m))) (leb least n) (leb n most) (every class (take n (drop at m))) refl refl refl refl is
+-- bytes that begin with a text agree with all of it
+pub begins_text : (text bs : Bytes) → pointwise eqb text (take (length text) bs) ≡ eqb (agreement text bs) (length text)
+begins_text [] bs = refl
+begins_text (h ∷ hs) [] = sym (eqb-zero-suc (length hs))
+begins_text (h ∷ hs) (b ∷ bs) = by (eqb h b) (nat_eq_equiv.symm h b) (begins_text hs bs)
   where
-    n : ℕ
-    n = seek GS (drop at m)
-
-    whole : (e : ℕ) → e ≡ length m → e < length m → Inside least most class m at end
-    whole e same less = absurd (omega arith)
-
-    by : (t l g w : Bool) → ltb n (length (drop at m)) ≡ t → leb least n ≡ l → leb n most ≡ g → every class (take n (drop at m)) ≡ w → end ≡ cond (t && (l && g) && w) (at + n) (length m) → Inside least most class m at end
-    by false l g w p q r s e = whole end e some
-    by true false g w p q r s e = whole end e some
-    by true true false w p q r s e = whole end e some
-    by true true true false p q r s e = whole end e some
-    by true true true true p q r s e =
-        let first : end - at ≡ n = omega arith in
-        let few = leb-true n most r in
-        record { start = omega arith; short = omega arith; found = e; size = ap (leb least) first ∙ q; bytes = ap (λ k. every class (take k (drop at m))) first ∙ s }
+    by : (t : Bool) → t ≡ eqb b h → pointwise eqb hs (take (length hs) bs) ≡ eqb (agreement hs bs) (length hs)
+        → (t && pointwise eqb hs (take (length hs) bs)) ≡ eqb (cond (eqb b h) (suc (agreement hs bs)) 0) (suc (length hs))
+    by true is behind = behind ∙ sym (eqb-suc-suc (agreement hs bs) (length hs)) ∙ ap (λ t. eqb (cond t (suc (agreement hs bs)) 0) (suc (length hs))) is
+    by false is behind = sym (eqb-zero-suc (length hs)) ∙ ap (λ t. eqb (cond t (suc (agreement hs bs)) 0) (suc (length hs))) is

@@ -1,19 +1,20 @@
 // Bodies that run to the first RS: 12, then 10, then the fault of one that breaks its rules: 30 to 33 in 01, else 11.
-ghost use Rattle.std.specs.Prelude.{◌≡◌, ◌-◌, ◌≤◌, length, take, drop};
+ghost use Rattle.std.specs.Prelude.{◌≡◌, ◌+◌, ◌^◌, ◌<◌, ◌≤◌, length};
 ghost use Rattle.faults.specs.PieceFaults.{fault_of};
 ghost use Rattle.envelope.specs.Bodies.{fault_found, body_found};
 
+use crate::due::Due;
 use crate::{Fault, Found};
 use label::Reason;
 use leaves::RS;
 use pieces::Kind;
 
-// A body that breaks its rules, from an offset to its end: refused where a piece of it is at fault, or as a whole.
-fn judge_fault(m: &[u8], at: usize, end: usize, k: Kind) -> Result<Found, Fault>
-    requires { (at ≤ end) × (end ≤ length m.now) }
-    ensures { result ≡ fault_found at (fault_of k (take (end - at) (drop at m.now))) }
+// A body that breaks its rules and stands at an offset: refused where a piece of it is at fault, or as a whole.
+fn judge_fault(at: usize, body: &[u8], k: Kind) -> Result<Found, Fault>
+    requires { at + length body.now < 2 ^ 64 }
+    ensures { result ≡ fault_found at (fault_of k body.now) }
 {
-    match faults::fault_in(k, &m[at..end]) {
+    match faults::fault_in(k, body) {
         Some(fault) => Err(Fault {
             reason: fault.reason,
             place: Some(at + fault.place),
@@ -22,21 +23,21 @@ fn judge_fault(m: &[u8], at: usize, end: usize, k: Kind) -> Result<Found, Fault>
     }
 }
 
-// The body of a kind from an offset on, behind rows that the header has.
-pub(crate) fn judge_body(m: &[u8], at: usize, k: Kind, before: usize) -> Result<Found, Fault>
-    requires { (before ≤ 2) × (at ≤ length m.now) }
-    ensures { result ≡ body_found k before m.now at }
+// The body of a kind, behind rows that the header has.
+pub(crate) fn judge_body(due: Due, k: Kind, before: usize) -> Result<Found, Fault>
+    requires { before ≤ 2 }
+    ensures { result ≡ body_found k before due.entry.message.now due.entry.at }
 {
-    let end = leaves::find_far(m, at, RS);
-    if m.len() <= end {
+    let end = leaves::find_far(due.message, due.at, RS);
+    if due.message.len() <= end {
         return Err(Reason::NoRecordSeparator.into());
     }
-    let body = &m[at..end];
+    let body = due.to(end);
     if !leaves::all_in(bodies::permitted(k), body) {
         return Err(Reason::ByteNotPermitted.into());
     }
     if !bodies::rules_hold(k, body) {
-        return judge_fault(m, at, end, k);
+        return judge_fault(due.at, body, k);
     }
     Ok(Found::Closed(end + 1, before + bodies::rows_in(k, body)))
 }

@@ -1,85 +1,60 @@
 // Indicators and header values.
-ghost use Rattle.std.specs.Prelude.{◌≡◌, ◌-◌, ◌≤◌, length, drop};
+ghost use Rattle.std.specs.Prelude.{◌≡◌, ◌≤◌, length, drop, false};
+ghost use Rattle.std.specs.Range.{range_inclusive_start, range_inclusive_end, range_inclusive_exhausted};
 ghost use Rattle.label.specs.Values.{value, count_length};
 ghost use Rattle.leaves.specs.Classes.{class_of};
 ghost use Rattle.envelope.specs.Headers.{if_below, decimal_of, no_indicator, indicator_of, value_end, value_found};
 
+use crate::due::Due;
 use label::Reason;
 use leaves::{Class, GS};
+use std::ops::RangeInclusive;
 
 // What a digit is worth.
+#[tactic(auto, unfolding(label::specs::Bytes::digit, label::specs::Bytes::between))]
 fn decimal(b: u8) -> Option<usize>
     ensures { result ≡ if_below 10 (decimal_of b) }
 {
-    if b < b'0' {
-        return None;
+    match b {
+        b'0'..=b'9' => Some(usize::from(b - b'0')),
+        _ => None,
     }
-    if b'9' < b {
-        return None;
-    }
-    Some(usize::from(b - b'0'))
 }
 
 // The number of the indicator at an offset.
 pub(crate) fn indicator(m: &[u8], at: usize) -> Option<usize>
     ensures { result ≡ if_below no_indicator (indicator_of (drop at m.now)) }
 {
-    if m.len() < 2 {
+    let [tens, units, ..] = m.get(at..)? else {
         return None;
-    }
-    if m.len() - 2 < at {
-        return None;
-    }
-    let tens = decimal(m[at])?;
-    let units = decimal(m[at + 1])?;
-    Some(tens * 10 + units)
+    };
+    Some(decimal(*tens)? * 10 + decimal(*units)?)
 }
 
-// Where a header value of 09 or 15 ends that begins at an offset: at the next GS, if its length and bytes are as they should; else 8.
-pub(crate) fn value_end(
-    m: &[u8],
-    at: usize,
-    least: usize,
-    most: usize,
-    k: Class,
-) -> Result<usize, Reason>
-    requires { at ≤ length m.now }
-    ensures { result ≡ value_found m.now (value_end least most (class_of k) m.now at) }
+// Where a header value of 09 or 15 ends that begins at a place, given how long it may be and of which bytes: at the next GS; else 8.
+pub(crate) fn value_end(due: Due, sizes: RangeInclusive<usize>, k: Class) -> Result<usize, Reason>
+    requires { range_inclusive_exhausted sizes ≡ false }
+    ensures { result ≡ value_found due.entry.message.now (value_end (range_inclusive_start sizes) (range_inclusive_end sizes) (class_of k) due.entry.message.now due.entry.at) }
 {
-    let end = leaves::find(m, at, GS);
-    if m.len() <= end {
+    let end = leaves::find(due.message, due.at, GS);
+    if due.message.len() <= end {
         return Err(Reason::BadFormatHeader);
     }
-    let size = end - at;
-    if (size < least) | (most < size) {
-        return Err(Reason::BadFormatHeader);
-    }
-    if leaves::all_in(k, &m[at..end]) {
+    let value = due.to(end);
+    if sizes.contains(&value.len()) && leaves::all_in(k, value) {
         return Ok(end);
     }
     Err(Reason::BadFormatHeader)
 }
 
-// The number that the digits of a count make.
+// The number that the digits of a count make; a byte below `0` adds nothing.
 pub(crate) fn digits_value(s: &[u8]) -> usize
     requires { length s.now ≤ count_length.1 }
     ensures { result ≡ value s.now }
 {
     let mut n = 0;
-    let mut i = 0;
-    while i < s.len() {
-        n = n * 10 + worth(s[i]);
-        i += 1;
+    for b in s {
+        n = n * 10 + usize::from(b.saturating_sub(b'0'));
     }
     n
-}
-
-// What a byte adds to a number: its distance from `0`.
-fn worth(b: u8) -> usize
-    ensures { result ≡ b - 0x30 }
-{
-    if b < 0x30 {
-        return 0;
-    }
-    (b - 0x30) as usize
 }

@@ -2,6 +2,7 @@
 #![tactic(auto)]
 
 mod body;
+mod due;
 mod format;
 mod header;
 
@@ -10,6 +11,7 @@ ghost use Rattle.label.specs.Formats.{rule_of};
 ghost use Rattle.label.specs.ReadEnvelope.{read_by, read_envelope};
 ghost use Rattle.envelope.specs.Shown.{shown, placed};
 
+use due::Due;
 use formats::{Shape, shape_in};
 use label::{Edition, Reason, Refusal};
 use pieces::Kind;
@@ -41,36 +43,29 @@ impl From<Reason> for Fault {
 }
 
 // The format with a number in an edition, behind its indicator: 6, then 7, then its header and body.
-fn judge_format(
-    edition: Edition,
-    m: &[u8],
-    at: usize,
-    f: usize,
-    first: bool,
-) -> Result<Found, Fault>
-    requires { at ≤ length m.now }
-    ensures { result ≡ shown m.now (read_by (rule_of edition f) first f (drop at m.now)) }
+fn judge_format(edition: Edition, due: Due, f: usize, first: bool) -> Result<Found, Fault>
+    ensures { result ≡ shown due.entry.message.now (read_by (rule_of edition f) first f (drop due.entry.at due.entry.message.now)) }
 {
     let shape = shape_in(edition, f);
     match shape {
         Shape::Fields => if first {
-            format::judge_transport(m, at)
+            format::judge_transport(due)
         } else {
             Err(Reason::NotFirst.into())
         },
         Shape::Rest => if first {
-            format::judge_rest(m, at)
+            format::judge_rest(due)
         } else {
             Err(Reason::NotFirst.into())
         },
-        Shape::Segments03 => format::judge_segments(m, at, Kind::Segments03),
-        Shape::Segments04 => format::judge_segments(m, at, Kind::Segments04),
-        Shape::Elements05 => format::judge_elements(m, at, Kind::Elements05),
-        Shape::Elements06 => format::judge_elements(m, at, Kind::Elements06),
-        Shape::Text => body::judge_body(m, at, Kind::Text, 1),
-        Shape::Counted => format::judge_counted(m, at),
-        Shape::Elements12 => format::judge_elements(m, at, Kind::Elements12),
-        Shape::CountOnly => format::judge_count_only(m, at),
+        Shape::Segments03 => format::judge_segments(due, Kind::Segments03),
+        Shape::Segments04 => format::judge_segments(due, Kind::Segments04),
+        Shape::Elements05 => format::judge_elements(due, Kind::Elements05),
+        Shape::Elements06 => format::judge_elements(due, Kind::Elements06),
+        Shape::Text => body::judge_body(due, Kind::Text, 1),
+        Shape::Counted => format::judge_counted(due),
+        Shape::Elements12 => format::judge_elements(due, Kind::Elements12),
+        Shape::CountOnly => format::judge_count_only(due),
         Shape::Unknown => Err(Reason::UnknownFormat.into()),
     }
 }
@@ -82,7 +77,11 @@ fn judge_due(edition: Edition, m: &[u8], at: usize, first: bool) -> Result<Found
     let Some(f) = header::indicator(m, at) else {
         return Err(Reason::NoIndicator.into());
     };
-    judge_format(edition, m, at + 2, f, first)
+    let due = Due {
+        message: m,
+        at: at + 2,
+    };
+    judge_format(edition, due, f, first)
 }
 
 // The same, with the place of each refusal.

@@ -17,10 +17,10 @@ returns-in_default c = let bs = drop c.args.at c.args.m.now in
     let limit = indicator_limit bs in
     ap Err c.into.ensures ∙ sym (ap (shown c.args.m.now) (read_none c.args.edition c.args.first bs (omega arith)))
 
-pub judge_format-requires : goal.judge_format-requires
-judge_format-requires c = let bs = drop c.args.at c.args.m.now in
+pub invariant_of-due : goal.invariant_of-due
+invariant_of-due c = let bs = drop c.args.at c.args.m.now in
     let there = is_below no_indicator (indicator_of bs) c.in-Some.f c.in-Some.ensures in
-    omega (arith, indicator_long bs there.1, length-drop c.args.at c.args.m.now)
+    record { inside = omega (arith, indicator_long bs there.1, length-drop c.args.at c.args.m.now) }
 
 pub returns : goal.returns
 returns c = let bs = drop c.args.at c.args.m.now in
