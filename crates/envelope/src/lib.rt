@@ -9,11 +9,11 @@ mod header;
 ghost use Rattle.std.specs.Prelude.{◌≡◌, ◌≤◌, length, drop, None};
 ghost use Rattle.label.specs.Formats.{rule_of};
 ghost use Rattle.label.specs.ReadEnvelope.{read_by, read_envelope};
-ghost use Rattle.envelope.specs.Shown.{shown, placed};
+ghost use Rattle.envelope.specs.Shown.{shown};
 
 use due::Due;
 use formats::{Shape, shape_in};
-use label::{Edition, Reason, Refusal};
+use label::{Edition, Reason};
 use pieces::Kind;
 
 // What is found where an envelope is due: an envelope with the offset behind its RS and its rows, or one that takes all the rest with its rows.
@@ -26,7 +26,7 @@ pub enum Found {
 // Why there is none: the reason, and where a field or an element is at fault the place at which that starts. Else the place is where the
 // envelope is due.
 #[derive(Clone, Copy)]
-pub(crate) struct Fault {
+pub struct Fault {
     pub reason: Reason,
     pub place: Option<usize>,
 }
@@ -71,7 +71,7 @@ fn judge_format(edition: Edition, due: Due, f: usize, first: bool) -> Result<Fou
 }
 
 // What is found where an envelope is due: 3, then its format.
-fn judge_due(edition: Edition, m: &[u8], at: usize, first: bool) -> Result<Found, Fault>
+pub fn judge_envelope(edition: Edition, m: &[u8], at: usize, first: bool) -> Result<Found, Fault>
     ensures { result ≡ shown m.now (read_envelope edition first (drop at m.now)) }
 {
     let Some(f) = header::indicator(m, at) else {
@@ -82,14 +82,4 @@ fn judge_due(edition: Edition, m: &[u8], at: usize, first: bool) -> Result<Found
         at: at + 2,
     };
     judge_format(edition, due, f, first)
-}
-
-// The same, with the place of each refusal.
-pub fn judge_envelope(edition: Edition, m: &[u8], at: usize, first: bool) -> Result<Found, Refusal>
-    ensures { result ≡ placed at (shown m.now (read_envelope edition first (drop at m.now))) }
-{
-    judge_due(edition, m, at, first).map_err(|fault| Refusal {
-        reason: fault.reason,
-        place: fault.place.unwrap_or(at),
-    })
 }

@@ -1,6 +1,8 @@
 // The walk over a message's envelopes from the left.
 ghost use Rattle.std.specs.Prelude.{◌≡◌, true, ◌≤◌, length, drop};
+ghost use Rattle.label.specs.ReadEnvelope.{read_envelope};
 ghost use Rattle.label.specs.ReadMessage.{unbounded_walk};
+ghost use Rattle.envelope.specs.Shown.{shown, placed};
 ghost use Rattle.label.specs.Message.{header};
 ghost use Rattle.judge.specs.Shown.{tallied};
 ghost use Rattle.judge.specs.Turns.{Sound, TurnSo, boundary_turn};
@@ -39,6 +41,16 @@ fn boundary(m: &[u8], at: usize, envelopes: usize, rows: usize) -> Result<Turn, 
     })
 }
 
+// What is found where an envelope is due, with the place of each refusal.
+fn judge_at(edition: Edition, m: &[u8], at: usize, first: bool) -> Result<Found, Refusal>
+    ensures { result ≡ placed at (shown m.now (read_envelope edition first (drop at m.now))) }
+{
+    judge_envelope(edition, m, at, first).map_err(|fault| Refusal {
+        reason: fault.reason,
+        place: fault.place.unwrap_or(at),
+    })
+}
+
 // One envelope, and what follows it.
 fn turn(edition: Edition, m: &[u8], s: State) -> Result<Turn, Refusal>
     requires { Sound m.now s }
@@ -46,7 +58,7 @@ fn turn(edition: Edition, m: &[u8], s: State) -> Result<Turn, Refusal>
 {
     let envelopes = s.envelopes;
     let rows = s.rows;
-    match judge_envelope(edition, m, s.at, s.first)? {
+    match judge_at(edition, m, s.at, s.first)? {
         Found::Whole(n) => Ok(Break(Counts {
             envelopes: envelopes + 1,
             rows: rows + n,

@@ -1,4 +1,4 @@
--- `judge_due` shows what reading an envelope does: no indicator, or its format.
+-- `judge_envelope` shows what reading an envelope does: no indicator, or its format.
 use Rattle.std.specs.Prelude.{Err}
 use mathlib.Core.Path.{sym, ap, ◌∙◌}
 use native.Mathlib.Omega.{arith}
@@ -9,7 +9,7 @@ use Rattle.label.specs.ReadEnvelope.{read_by}
 use Rattle.envelope.specs.Headers.{no_indicator, indicator_of}
 use Rattle.envelope.specs.Shown.{shown}
 use Rattle.envelope.proofs.HeaderLaws.{not_below, is_below, indicator_limit, indicator_long, read_none, read_some}
-use Rattle.envelope.proofs.judge_due.Goals as goal
+use Rattle.envelope.proofs.judge_envelope.Goals as goal
 
 pub returns-in_default : goal.returns-in_default
 returns-in_default c = let bs = drop c.args.at c.args.m.now in
