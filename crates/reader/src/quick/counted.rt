@@ -15,7 +15,9 @@ use sweeps::{Unswept, Value};
 use walk::{Stage, count_from, standing_at};
 
 impl Sweep<'_> {
-    // Goes over the row of a header value and answers the offset behind its GS.
+    // Goes over the row of a header value and answers the offset behind its GS. The compiler writes it and `payload` out where they are called, as
+    // a call answers through memory: a reading of format 09 takes a fifth fewer instructions so (docs/PERFORMANCE.md, case d).
+    #[inline(always)]
     fn value(&self, v: Value, at: usize, notes: &mut Notes) -> Result<usize, Unswept>
         requires { ValueDue self.now.message.now self.now.wanted v.format v.stage at notes.old.rows notes.old.numbers.now × PlainBytes v }
         ensures swept { IfOk result (λ next. (notes.new.rows ≡ notes.old.rows + 1) × ValueSwept self.now.message.now self.now.wanted.from v at notes.old.rows next notes.new.numbers.now) }
@@ -37,6 +39,7 @@ impl Sweep<'_> {
     }
 
     // The count and the payload of a format.
+    #[inline(always)]
     fn payload(&self, f: u32, count: usize, notes: &mut Notes) -> Result<usize, Unswept>
         requires { ValueDue self.now.message.now self.now.wanted f Stage.CountValue count notes.old.rows notes.old.numbers.now }
         ensures swept { IfOk result (λ next. CountSwept self.now.message.now self.now.wanted.from count notes.old.rows (record { next = next; rows = notes.new.rows }) notes.new.numbers.now) }
