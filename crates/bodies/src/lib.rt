@@ -85,7 +85,7 @@ pub fn rules_hold(k: Kind, body: &[u8]) -> bool
         Kind::Fields02 => fields_hold(k, MOST_FIELDS_02, body),
         Kind::Fields96 => fields_hold(k, MOST_FIELDS_96, body),
         Kind::Segments03 | Kind::Segments04 => segments_hold(k, body),
-        // Not one arm: with one call in place of three the refusal (e) takes 182,490 instructions, not 165,530, and misses its bar.
+        // Not one arm: with one call in place of three the refusal (e) takes 184,410 instructions, not 168,049, and misses its bar.
         Kind::Elements05 => pieces_hold(k, body),
         Kind::Elements06 => pieces_hold(k, body),
         Kind::Elements12 => pieces_hold(k, body),

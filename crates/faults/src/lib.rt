@@ -90,7 +90,7 @@ pub fn fault_in(k: Kind, body: &[u8]) -> Option<Refusal>
     match k {
         Kind::Fields02 => fields_fault(k, MOST_FIELDS_02, body),
         Kind::Fields96 => fields_fault(k, MOST_FIELDS_96, body),
-        // An arm each: so the search is compiled for each kind. In one arm case e of the benchmark takes 181,816 instructions; its bar is 173,725.
+        // An arm each: so the search is compiled for each kind. In one arm case e of the benchmark takes 181,816 instructions; its bar is 170,300.
         Kind::Elements05 => first_fault(k, body),
         Kind::Elements06 => first_fault(k, body),
         Kind::Elements12 => first_fault(k, body),
