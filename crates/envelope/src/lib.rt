@@ -16,7 +16,8 @@ use formats::{Shape, shape_in};
 use label::{Edition, Reason};
 use pieces::Kind;
 
-// What is found where an envelope is due: an envelope with the offset behind its RS and its rows, or one that takes all the rest with its rows.
+// What is found where an envelope is due: an envelope with the offset behind its RS and its rows, or one that takes all the rest with its
+// rows. Both are envelopes, so neither is an error or a None.
 #[derive(Clone, Copy)]
 pub enum Found {
     Closed(usize, usize),

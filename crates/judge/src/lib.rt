@@ -10,7 +10,8 @@ ghost use Rattle.judge.specs.Shown.{judged_as};
 use label::{Counts, Edition, HEADER, LONGEST, MOST_ROWS, Reading, Reason, Refusal};
 use std::ops::ControlFlow;
 
-// Where the walk stands: the offset at which an envelope is due, whether it is the first, and what was counted so far.
+// Where the walk stands: the offset at which an envelope is due, whether it is the first, which `read_envelope` asks for, and what was
+// counted so far.
 #[derive(Clone, Copy)]
 pub struct State {
     pub at: usize,

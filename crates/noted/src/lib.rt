@@ -11,7 +11,8 @@ ghost use Rattle.noted.specs.Noted.{rows_noted, answer_from, table_from, Copies,
 
 use label::{Counts, MOST_ROWS, ROW, Reading, Reason, Refusal, Stretch};
 
-// How many numbers a row is in the notes, and the length of notes with room for the most rows.
+// How many numbers a row is in the notes, and the length of notes with room for the most rows. They are flat: `hand_over` is public and
+// takes any list of numbers.
 pub const NOTE: usize = 4;
 
 pub const NOTES: usize = NOTE * MOST_ROWS;

@@ -9,7 +9,7 @@ ghost use Rattle.zielorad.specs.Crossing.{edition_in, reading_for, written_for, 
 
 use label::Edition;
 
-// What reading answers: number 0 is acceptance, with the counts; any other a refusal, with its place.
+// What reading answers: number 0 is acceptance, with the counts; any other a refusal, with its place. C has no Result.
 #[repr(C)]
 #[derive(Clone, Copy)]
 pub struct ZieloradReading {

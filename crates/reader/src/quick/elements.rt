@@ -33,7 +33,7 @@ impl Sweep<'_> {
     {
         let capital = self.behind_digits(at);
         let b = self.message[capital];
-        if (b < 0x41) | (0x5A < b) {
+        if (b < b'A') | (b'Z' < b) {
             return None;
         }
         let end = self.run_end(Class::Plain, capital + 1);

@@ -24,13 +24,13 @@ impl Sweep<'_> {
         let m = self.message;
         let tens = m[at];
         let units = m[at + 1];
-        if (units < 0x30) | (0x39 < units) {
+        if (units < b'0') | (b'9' < units) {
             return None;
         }
-        let unit = u32::from(units - 0x30);
+        let unit = u32::from(units - b'0');
         match tens {
-            0x30 => Some(unit),
-            0x31 => Some(10 + unit),
+            b'0' => Some(unit),
+            b'1' => Some(10 + unit),
             _ => None,
         }
     }
