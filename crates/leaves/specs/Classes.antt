@@ -1,5 +1,5 @@
--- The classes of bytes that a stretch is tested for, each by its definition.
-use Rattle.std.specs.Prelude.{ℕ, Bool}
+-- The classes of bytes that a stretch is tested for, each by its definition, and what a digit is worth.
+use Rattle.std.specs.Prelude.{ℕ, ◌-◌, Bool, cond, Option, Some, None}
 use Rattle.label.specs.Bytes.{plain, digit, capital_or_digit}
 use Rattle.label.specs.Formats.{rest_byte, text_byte}
 use Rattle.label.specs.ReadEnvelope.{plain_or_gs, segment_byte}
@@ -14,3 +14,7 @@ class_of PlainOrGs = plain_or_gs
 class_of SegmentByte = segment_byte
 class_of TextByte = text_byte
 class_of RestByte = rest_byte
+
+-- what a digit is worth (0x30 is `0`); nothing for a byte that is none
+abbrev pub digit_of : ℕ → Option ℕ
+digit_of b = cond (digit b) (Some (b - 0x30)) None

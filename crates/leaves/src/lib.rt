@@ -3,7 +3,7 @@
 
 ghost use Rattle.std.specs.Prelude.{◌≡◌, not, ◌+◌, ◌-◌, eqb, drop};
 ghost use Rattle.label.specs.Bytes.{every, plain};
-ghost use Rattle.leaves.specs.Classes.{class_of};
+ghost use Rattle.leaves.specs.Classes.{class_of, digit_of};
 ghost use Rattle.leaves.specs.Seek.{seek};
 
 // Control bytes (001, clause 4).
@@ -50,6 +50,17 @@ pub fn in_class(k: Class, b: u8) -> bool
         Class::SegmentByte => is_plain(b) | matches!(b, FS | GS | US),
         Class::TextByte => b.is_ascii() & !matches!(b, EOT | FS | GS | RS | US),
         Class::RestByte => b.is_ascii() & !matches!(b, RS | EOT),
+    }
+}
+
+// What a digit is worth.
+#[tactic(auto, unfolding(label::specs::Bytes::digit, label::specs::Bytes::between))]
+pub fn digit(b: u8) -> Option<u8>
+    ensures { result ≡ digit_of b }
+{
+    match b {
+        b'0'..=b'9' => Some(b - b'0'),
+        _ => None,
     }
 }
 

@@ -5,10 +5,11 @@
 
 ghost use Rattle.std.specs.Prelude.{◌≡◌};
 ghost use Rattle.label.specs.Limits.{limit_of};
-ghost use Rattle.label.specs.Fields.{version_row};
+ghost use Rattle.label.specs.Fields.{version_row, most_fields};
 ghost use Rattle.limits.specs.Worked.{for96};
+ghost use Rattle.limits.specs.Sizes.{size_within};
 
-use label::{Limit, MOST_FIELDS_02, Version};
+use label::{Limit, MOST_FIELDS_02, MOST_FIELDS_96, Version};
 
 // 'Transport fields', version 02: a pair for each field in its order.
 const LIMITS: [Limit; MOST_FIELDS_02] = [
@@ -68,5 +69,23 @@ pub fn limits_of(version: usize, field: usize) -> Limit
         0 => limits_in(Version::Version02, field),
         1 => limits_in(Version::Version96, field),
         _ => Limit(0, 0),
+    }
+}
+
+// Whether a field may have so many bytes.
+pub fn fits(version: Version, field: usize, size: usize) -> bool
+    ensures { result ≡ size_within (limit_of (version_row version) field) size }
+{
+    let limit = limits_in(version, field);
+    (usize::from(limit.0) <= size) & (size <= usize::from(limit.1))
+}
+
+// How many fields a version has at most.
+pub fn most_fields(version: Version) -> usize
+    ensures { result ≡ most_fields version }
+{
+    match version {
+        Version::Version02 => MOST_FIELDS_02,
+        Version::Version96 => MOST_FIELDS_96,
     }
 }
