@@ -89,10 +89,6 @@ before_last s some =
     let one : suc (length s - 1) ≡ length s = omega (arith, some) in
     split_at s (length s - 1) 0 (omega arith) ∙ ap (λ r. take (length s - 1) s ++ (get_or s (length s - 1) 0 ∷ r)) (ap (λ n. drop n s) one ∙ drop-length s)
 
-pub last_none : (c : ℕ) (s : Bytes) → length s ≡ 0 → true ≡ last_is_empty (pieces c s)
-last_none c [] is = refl
-last_none c (b ∷ s) is = absurd (omega arith)
-
 pub last_is : (c : ℕ) (s : Bytes) → (length s ≡ 0 → ⊥) → eqb (get_or s (length s - 1) 0) c ≡ last_is_empty (pieces c s)
 last_is c s some = by (eqb x c) refl ∙ sym (ap (λ l. last_is_empty (pieces c l)) (before_last s some))
   where

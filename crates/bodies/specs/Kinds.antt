@@ -2,7 +2,6 @@
 use Rattle.std.specs.Prelude.{ℕ, ◌+◌, ◌-◌, Bool, true, not, ◌&&◌, ◌||◌, List, [], ◌∷◌, length, take, leb, ltb, eqb}
 use Rattle.label.specs.Bytes.{Bytes, FS, GS, US, every}
 use Rattle.label.specs.Pieces.{pieces, last_is_empty}
-use Rattle.label.specs.declared.Version.TheVariants.{Version02, Version96}
 use Rattle.label.specs.Elements.{element05, element06, element12}
 use Rattle.label.specs.Segments.{tag, tag03}
 use Rattle.label.specs.Fields.{least_fields, transport}
@@ -10,11 +9,10 @@ use Rattle.label.specs.Formats.{text_byte}
 use Rattle.label.specs.ReadEnvelope.{plain_or_gs, segment_byte, are_segments}
 use Rattle.leaves.specs.Seek.{tally_of}
 use Rattle.pieces.specs.declared.Kind.{Kind}
-use Rattle.pieces.specs.declared.Kind.TheVariants.{Fields02, Fields96, Segments03, Segments04, Elements05, Elements06, Text, Elements12}
+use Rattle.pieces.specs.declared.Kind.TheVariants.{Fields, Segments03, Segments04, Elements05, Elements06, Text, Elements12}
 
 abbrev pub permitted_of : Kind → ℕ → Bool
-permitted_of Fields02 = plain_or_gs
-permitted_of Fields96 = plain_or_gs
+permitted_of (Fields v) = plain_or_gs
 permitted_of Segments03 = segment_byte
 permitted_of Segments04 = segment_byte
 permitted_of Elements05 = plain_or_gs
@@ -23,8 +21,7 @@ permitted_of Text = text_byte
 permitted_of Elements12 = plain_or_gs
 
 abbrev pub rules_of : Kind → Bytes → Bool
-rules_of Fields02 body = transport Version02 (pieces GS body)
-rules_of Fields96 body = transport Version96 (pieces GS body)
+rules_of (Fields v) body = transport v (pieces GS body)
 rules_of Segments03 body = are_segments tag03 body
 rules_of Segments04 body = are_segments tag body
 rules_of Elements05 body = every element05 (pieces GS body)
@@ -34,8 +31,7 @@ rules_of Elements12 body = every element12 (pieces GS body)
 
 -- how many rows a body has: one for each piece, or for the whole
 abbrev pub rows_of_body : Kind → Bytes → ℕ
-rows_of_body Fields02 body = tally_of GS body + 1
-rows_of_body Fields96 body = tally_of GS body + 1
+rows_of_body (Fields v) body = tally_of GS body + 1
 rows_of_body Segments03 body = tally_of FS body + tally_of GS body + tally_of US body
 rows_of_body Segments04 body = tally_of FS body + tally_of GS body + tally_of US body
 rows_of_body Elements05 body = tally_of GS body + 1
@@ -45,8 +41,7 @@ rows_of_body Elements12 body = tally_of GS body + 1
 
 -- at which byte a body is cut into pieces
 abbrev pub separator_of : Kind → ℕ
-separator_of Fields02 = GS
-separator_of Fields96 = GS
+separator_of (Fields v) = GS
 separator_of Segments03 = FS
 separator_of Segments04 = FS
 separator_of Elements05 = GS

@@ -4,11 +4,12 @@
 
 ghost use Rattle.std.specs.Prelude.{◌≡◌};
 ghost use Rattle.label.specs.Pieces.{pieces, last_is_empty};
+ghost use Rattle.label.specs.Fields.{transport};
 ghost use Rattle.leaves.specs.Classes.{class_of};
 ghost use Rattle.pieces.specs.PieceTests.{piece_test};
-ghost use Rattle.bodies.specs.Kinds.{permitted_of, rules_of, rows_of_body, separator_of, every_from, fields_of, segments_of};
+ghost use Rattle.bodies.specs.Kinds.{permitted_of, rules_of, rows_of_body, separator_of, every_from, segments_of};
 
-use label::{LEAST_FIELDS, MOST_FIELDS_02, MOST_FIELDS_96};
+use label::{LEAST_FIELDS, Version};
 use leaves::{Class, FS, GS, US};
 use pieces::Kind;
 
@@ -20,10 +21,9 @@ pub fn permitted(k: Kind) -> Class
     ensures { class_of result ≡ permitted_of k }
 {
     match k {
-        Kind::Fields02 | Kind::Fields96 => Class::PlainOrGs,
         Kind::Segments03 | Kind::Segments04 => Class::SegmentByte,
-        Kind::Elements05 | Kind::Elements06 | Kind::Elements12 => Class::PlainOrGs,
         Kind::Text => Class::TextByte,
+        _ => Class::PlainOrGs,
     }
 }
 
@@ -58,11 +58,12 @@ pub fn last_empty(s: &[u8], c: u8) -> bool
 }
 
 // Fields of a version: five at least, not too many, each as stated, and past the fifth the last not empty.
-fn fields_hold(k: Kind, most: usize, body: &[u8]) -> bool
-    ensures { result ≡ fields_of (piece_test k) most (pieces (separator_of k) body.now) body.now }
+fn fields_hold(version: Version, body: &[u8]) -> bool
+    ensures { result ≡ transport version (pieces GS body.now) }
 {
     let gs = tallies::tally(body, GS);
-    let all = pieces_hold(k, body);
+    let most = limits::most_fields(version);
+    let all = pieces_hold(Kind::Fields(version), body);
     let ends = last_empty(body, GS);
     (LEAST_SEPARATORS <= gs) & (gs < most) & all & ((gs == LEAST_SEPARATORS) | !ends)
 }
@@ -82,10 +83,9 @@ pub fn rules_hold(k: Kind, body: &[u8]) -> bool
     ensures { result ≡ rules_of k body.now }
 {
     match k {
-        Kind::Fields02 => fields_hold(k, MOST_FIELDS_02, body),
-        Kind::Fields96 => fields_hold(k, MOST_FIELDS_96, body),
+        Kind::Fields(version) => fields_hold(version, body),
         Kind::Segments03 | Kind::Segments04 => segments_hold(k, body),
-        // Not one arm: with one call in place of three the refusal (e) takes 184,410 instructions, not 168,049, and misses its bar.
+        // An arm each, so that the test is compiled for each: in one arm case e of the benchmark misses its bar (docs/PERFORMANCE.md).
         Kind::Elements05 => pieces_hold(k, body),
         Kind::Elements06 => pieces_hold(k, body),
         Kind::Elements12 => pieces_hold(k, body),

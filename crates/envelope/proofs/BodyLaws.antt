@@ -11,7 +11,7 @@ use Rattle.label.specs.Bytes.{Bytes, GS, RS, every}
 use Rattle.label.proofs.Tests.{cond_yes, cond_no}
 use Rattle.leaves.specs.Seek.{seek}
 use Rattle.pieces.specs.declared.Kind.{Kind}
-use Rattle.pieces.specs.declared.Kind.TheVariants.{Fields02, Fields96, Segments03, Segments04, Elements05, Elements06, Text, Elements12}
+use Rattle.pieces.specs.declared.Kind.TheVariants.{Fields, Segments03, Segments04, Elements05, Elements06, Text, Elements12}
 use Rattle.bodies.specs.Kinds.{permitted_of, rules_of, rows_of_body}
 use Rattle.bodies.proofs.RuleLaws.{rows_inside, tally_inside}
 use Rattle.faults.specs.PieceFaults.{fault_of}
@@ -67,8 +67,7 @@ module _ (k : Kind) (before : ℕ) (m : Bytes) (at end : ℕ) (inside : at ≤ l
 
 -- a body has at most one row more than bytes
 rows_few : (k : Kind) (body : Bytes) → rows_of_body k body ≤ length body + 1
-rows_few Fields02 body = omega (arith, tally_inside GS body)
-rows_few Fields96 body = omega (arith, tally_inside GS body)
+rows_few (Fields v) body = omega (arith, tally_inside GS body)
 rows_few Segments03 body = omega (arith, rows_inside body)
 rows_few Segments04 body = omega (arith, rows_inside body)
 rows_few Elements05 body = omega (arith, tally_inside GS body)

@@ -33,7 +33,7 @@ use Rattle.formats.specs.declared.Shape.{Shape}
 use Rattle.formats.specs.Shapes.{rule_for}
 use Rattle.leaves.specs.Seek.{seek, tally_of}
 use Rattle.pieces.specs.declared.Kind.{Kind}
-use Rattle.pieces.specs.declared.Kind.TheVariants.{Fields02, Fields96, Text}
+use Rattle.pieces.specs.declared.Kind.TheVariants.{Fields, Text}
 use Rattle.pieces.proofs.SeekLaws.{cut_found, cut_absent}
 use Rattle.bodies.specs.Kinds.{permitted_of, rules_of, rows_of_body}
 use Rattle.bodies.proofs.RuleLaws.{pieces_count}
@@ -247,23 +247,24 @@ transport_without f (b ∷ bs) none_there = by (eqb b GS) refl
     by true is = by_version (version_of (take 2 bs)) (eqb-true b GS is) refl
     by false is = refl
 
-version_body : (f : ℕ) (v : Version) (k : Kind) (m : Bytes) (at : ℕ) → at ≤ length m → agreement (GS ∷ version_digits v) (drop at m) ≡ 3
-    → (at + 3 ≤ length m → shown m (read_fields f (Some v) (drop (at + 3) m)) ≡ body_found k 2 m (at + 3)) → shown m (read_transport f (drop at m)) ≡ body_found k 2 m (at + 3)
-version_body f v k m at inside is then =
-    ap (shown m) (transport_with v f (drop at m) is ∙ ap (read_fields f (Some v)) (drop-drop 3 at m)) ∙ then (long v is)
+-- with a version's digits its fields are shown
+shown_version : (f : ℕ) (v : Version) (m : Bytes) (at : ℕ) → at ≤ length m → agreement (GS ∷ version_digits v) (drop at m) ≡ 3 → shown m (read_transport f (drop at m)) ≡ body_found (Fields v) 2 m (at + 3)
+unfolding read_fields
+shown_version f v m at inside is =
+    ap (shown m) (transport_with v f (drop at m) is ∙ ap (read_fields f (Some v)) (drop-drop 3 at m))
+    ∙ shown_body (Fields v) 2 m (at + 3) (λ body. fields f v (pieces GS body)) (long v is) (λ body kept. field_rows f v body)
   where
     long : (v : Version) → agreement (GS ∷ version_digits v) (drop at m) ≡ 3 → at + 3 ≤ length m
     long Version02 is = begins_long (GS ∷ version_digits Version02) m at inside is
     long Version96 is = begins_long (GS ∷ version_digits Version96) m at inside is
 
 pub shown_transport : (f : ℕ) (m : Bytes) (at : ℕ) → at ≤ length m → shown m (read_transport f (drop at m)) ≡ transport_found m at
-unfolding read_fields
 shown_transport f m at inside = by (begins_at (GS ∷ ascii "02") m at) (begins_at (GS ∷ ascii "96") m at) refl refl
   where
     by : (s t : Bool) → begins_at (GS ∷ ascii "02") m at ≡ s → begins_at (GS ∷ ascii "96") m at ≡ t
-        → shown m (read_transport f (drop at m)) ≡ cond s (body_found Fields02 2 m (at + 3)) (cond t (body_found Fields96 2 m (at + 3)) (no_envelope BadFormatHeader))
-    by true t p q = version_body f Version02 Fields02 m at inside (eqb-true _ 3 p) (λ long. shown_body Fields02 2 m (at + 3) (λ body. fields f Version02 (pieces GS body)) long (λ body kept. field_rows f Version02 body))
-    by false true p q = version_body f Version96 Fields96 m at inside (eqb-true _ 3 q) (λ long. shown_body Fields96 2 m (at + 3) (λ body. fields f Version96 (pieces GS body)) long (λ body kept. field_rows f Version96 body))
+        → shown m (read_transport f (drop at m)) ≡ cond s (body_found (Fields Version02) 2 m (at + 3)) (cond t (body_found (Fields Version96) 2 m (at + 3)) (no_envelope BadFormatHeader))
+    by true t p q = shown_version f Version02 m at inside (eqb-true _ 3 p)
+    by false true p q = shown_version f Version96 m at inside (eqb-true _ 3 q)
     by false false p q = ap (shown m) (transport_without f (drop at m) neither)
       where
         neither : (v : Version) → agreement (GS ∷ version_digits v) (drop at m) ≡ 3 → ⊥

@@ -2,12 +2,13 @@
 -- shows is proved (proofs/FormatLaws).
 use Rattle.std.specs.Prelude.{ℕ, ◌+◌, ◌-◌, Bool, not, ◌&&◌, cond, [], ◌∷◌, length, get_or, take, drop, ltb, eqb}
 use Rattle.label.specs.declared.Reason.TheVariants.{BadFormatHeader, PayloadDoesNotFit, ByteNotPermitted, BodyBreaksRules}
+use Rattle.label.specs.declared.Version.TheVariants.{Version02, Version96}
 use Rattle.label.specs.Bytes.{Bytes, ascii, FS, GS, RS, US, plain, digit, capital_or_digit, every}
 use Rattle.label.specs.Formats.{rest_byte}
 use Rattle.label.specs.Values.{release_length, value, type_length, compression_length, count_length}
 use Rattle.label.specs.ReadMessage.{agreement}
 use Rattle.pieces.specs.declared.Kind.{Kind}
-use Rattle.pieces.specs.declared.Kind.TheVariants.{Fields02, Fields96}
+use Rattle.pieces.specs.declared.Kind.TheVariants.{Fields}
 use Rattle.envelope.specs.Judged.{Judged, closed_at, whole_of, no_envelope}
 use Rattle.envelope.specs.Bodies.{body_found}
 use Rattle.envelope.specs.Headers.{value_end}
@@ -19,8 +20,8 @@ begins_at text m at = eqb (agreement text (drop at m)) (length text)
 -- 01: GS and the version
 abbrev pub transport_found : Bytes → ℕ → Judged
 transport_found m at =
-    cond (begins_at (GS ∷ ascii "02") m at) (body_found Fields02 2 m (at + 3))
-    (cond (begins_at (GS ∷ ascii "96") m at) (body_found Fields96 2 m (at + 3))
+    cond (begins_at (GS ∷ ascii "02") m at) (body_found (Fields Version02) 2 m (at + 3))
+    (cond (begins_at (GS ∷ ascii "96") m at) (body_found (Fields Version96) 2 m (at + 3))
     (no_envelope BadFormatHeader))
 
 -- 02: all the rest

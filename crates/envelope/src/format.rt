@@ -8,7 +8,7 @@ use crate::header::{digits_value, value_end};
 use crate::{Fault, Found};
 use label::{
     LEAST_COMPRESSION, LEAST_COUNT, LEAST_TYPE, MOST_COMPRESSION, MOST_COUNT, MOST_TYPE,
-    RELEASE_LENGTH, Reason,
+    RELEASE_LENGTH, Reason, Version,
 };
 use leaves::{Class, RS};
 use pieces::Kind;
@@ -17,14 +17,14 @@ use pieces::Kind;
 pub(crate) fn judge_transport(due: Due) -> Result<Found, Fault>
     ensures { result ≡ transport_found due.entry.message.now due.entry.at }
 {
-    let k = if due.begins(b"\x1D02") {
-        Kind::Fields02
+    let version = if due.begins(b"\x1D02") {
+        Version::Version02
     } else if due.begins(b"\x1D96") {
-        Kind::Fields96
+        Version::Version96
     } else {
         return Err(Reason::BadFormatHeader.into());
     };
-    judge_body(due.ahead(3), k, 2)
+    judge_body(due.ahead(3), Kind::Fields(version), 2)
 }
 
 // 02: all the rest, at least one byte.

@@ -15,7 +15,6 @@ use Rattle.label.specs.Bytes.{Bytes, GS, plain, every, is_empty}
 use Rattle.label.specs.Pieces.{pieces, last_is_empty}
 use Rattle.label.specs.Limits.{limit_of, long_as}
 use Rattle.label.specs.declared.Version.{Version}
-use Rattle.label.specs.declared.Version.TheVariants.{Version02, Version96}
 use Rattle.label.specs.Elements.{element05, element06, element12}
 use Rattle.label.specs.Fields.{field_bytes, version_row, most_fields, least_fields, field}
 use Rattle.label.specs.Faults.{fault_or, first_fault, element_fault, left_out, field_fault, count_fits, fields_fault, elements_fault, in_piece}
@@ -23,14 +22,13 @@ use Rattle.label.proofs.Faults.{not_leb}
 use Rattle.label.proofs.Splitting.{joined, joined_pieces}
 use Rattle.leaves.specs.Seek.{tally_of}
 use Rattle.pieces.specs.declared.Kind.{Kind}
-use Rattle.pieces.specs.declared.Kind.TheVariants.{Fields02, Fields96, Segments03, Segments04, Elements05, Elements06, Text, Elements12}
+use Rattle.pieces.specs.declared.Kind.TheVariants.{Fields, Segments03, Segments04, Elements05, Elements06, Text, Elements12}
 use Rattle.bodies.proofs.RuleLaws.{pieces_count}
 use Rattle.faults.specs.PieceFaults.{field_reason, piece_fault, fields_fault_of, fault_of}
 use Rattle.label.specs.declared.Refusal.{Refusal}
 
 -- Fields
 
--- why a field is refused, by the limits that were looked up
 -- a field that isn't as stated and fits its limits has wrong bytes
 field_fault_by : (v : Version) (i : ℕ) (f : Bytes) → cond (field v i f) None (Some (field_reason v i (length f))) ≡ field_fault v i f
 unfolding field field_fault long_as
@@ -67,11 +65,12 @@ last_past (suc k) [] = ap (λ t. t && false) (lt-leb (suc (suc k)) 0 (omega arit
 last_past (suc k) (p ∷ []) = ap (λ t. t && is_empty p) (lt-leb (suc (suc k)) 1 (omega arith)) ∙ sym (ap last_is_empty (drop-nil k))
 last_past (suc k) (p ∷ (q ∷ ps)) = ap (λ t. t && last_is_empty (q ∷ ps)) (leb-suc-suc (suc k) (suc (length ps))) ∙ last_past k (q ∷ ps)
 
-fields_fault_by_lem : (v : Version) (fault_of : ℕ → Bytes → Option Reason) → ((i : ℕ) (f : Bytes) → fault_of i f ≡ field_fault v i f) → (body : Bytes) → fields_fault_of fault_of (most_fields v) body ≡ fields_fault v body
+-- the code's tests of the number of fields, of the last one and of each are the definition's
+pub in_fields : (v : Version) (body : Bytes) → fields_fault_of (piece_fault (Fields v)) (most_fields v) body ≡ fields_fault v body
 unfolding fields_fault
-fields_fault_by_lem v fault_of same body =
+in_fields v body =
     (λ j. cond (ltb (count j) least_fields || ltb (most_fields v) (count j)) (in_piece BadFieldCount 0)
-    (cond (ltb least_fields (count j) && last_is_empty ps) (in_piece BadFieldCount (length body)) (first_fault (λ i f. same i f j) 0 0 ps)))
+    (cond (ltb least_fields (count j) && last_is_empty ps) (in_piece BadFieldCount (length body)) (first_fault (λ i f. field_fault_by v i f j) 0 0 ps)))
     ∙ (λ j. cond (not_leb (length ps) least_fields j || not_leb (most_fields v) (length ps) j) (in_piece BadFieldCount 0) (cond (last_past least_fields ps j) (in_piece BadFieldCount (length body)) (first_fault (field_fault v) 0 0 ps)))
     ∙ by (leb least_fields (length ps)) (leb (length ps) (most_fields v)) (in_piece BadFieldCount 0) _
   where
@@ -85,19 +84,6 @@ fields_fault_by_lem v fault_of same body =
     by true true x y = refl
     by true false x y = refl
     by false few x y = refl
-
--- Kinds of bodies
-
-pub in_fields_02 : (k : Kind) → k ≡ Fields02 → (body : Bytes) → fields_fault_of (piece_fault k) (most_fields Version02) body ≡ fault_of k body
-in_fields_02 k is body =
-    ap (λ x. fields_fault_of (piece_fault x) (most_fields Version02) body) is ∙ fields_fault_by_lem Version02 (piece_fault Fields02) (field_fault_by Version02) body ∙ ap (λ x. fault_of x body) (sym is)
-
-pub in_fields_96 : (k : Kind) → k ≡ Fields96 → (body : Bytes) → fields_fault_of (piece_fault k) (most_fields Version96) body ≡ fault_of k body
-in_fields_96 k is body =
-    ap (λ x. fields_fault_of (piece_fault x) (most_fields Version96) body) is ∙ fields_fault_by_lem Version96 (piece_fault Fields96) (field_fault_by Version96) body ∙ ap (λ x. fault_of x body) (sym is)
-
-pub in_elements : (k k' : Kind) → k ≡ k' → (body : Bytes) → first_fault (piece_fault k') 0 0 (pieces GS body) ≡ fault_of k' body → first_fault (piece_fault k) 0 0 (pieces GS body) ≡ fault_of k body
-in_elements k k' is body law = ap (λ x. first_fault (piece_fault x) 0 0 (pieces GS body)) is ∙ law ∙ ap (λ x. fault_of x body) (sym is)
 
 -- The search for the first
 
@@ -153,8 +139,7 @@ fields_inside v body r n found = by (count_fits v (pieces GS body)) (last_is_emp
 
 pub fault_inside : (k : Kind) (body : Bytes) (r : Reason) (n : ℕ) → fault_of k body ≡ in_piece r n → n ≤ length body
 unfolding elements_fault
-fault_inside Fields02 body r n found = fields_inside Version02 body r n found
-fault_inside Fields96 body r n found = fields_inside Version96 body r n found
+fault_inside (Fields v) body r n found = fields_inside v body r n found
 fault_inside Segments03 body r n found = let z : ◌≡◌ {A = ℕ} 0 1 = cc in absurd (omega arith)
 fault_inside Segments04 body r n found = let z : ◌≡◌ {A = ℕ} 0 1 = cc in absurd (omega arith)
 fault_inside Elements05 body r n found = pieces_inside (element_fault element05) body r n found

@@ -6,13 +6,12 @@ use Rattle.label.specs.Bytes.{Bytes, GS}
 use Rattle.label.specs.Pieces.{pieces, last_is_empty}
 use Rattle.label.specs.Limits.{limit_of}
 use Rattle.label.specs.declared.Version.{Version}
-use Rattle.label.specs.declared.Version.TheVariants.{Version02, Version96}
 use Rattle.label.specs.Elements.{element05, element06, element12}
 use Rattle.label.specs.Fields.{least_fields, version_row}
 use Rattle.label.specs.Faults.{first_fault, fields_fault, elements_fault, whole_fault, in_piece}
 use Rattle.leaves.specs.Seek.{tally_of}
 use Rattle.pieces.specs.declared.Kind.{Kind}
-use Rattle.pieces.specs.declared.Kind.TheVariants.{Fields02, Fields96, Segments03, Segments04, Elements05, Elements06, Text, Elements12}
+use Rattle.pieces.specs.declared.Kind.TheVariants.{Fields, Segments03, Segments04, Elements05, Elements06, Text, Elements12}
 use Rattle.pieces.specs.PieceTests.{piece_test}
 use Rattle.label.specs.declared.Refusal.{Refusal}
 
@@ -24,8 +23,7 @@ field_reason v i n =
     BadFieldBytes)
 
 abbrev pub reason_of : Kind → ℕ → ℕ → Reason
-reason_of Fields02 i n = field_reason Version02 i n
-reason_of Fields96 i n = field_reason Version96 i n
+reason_of (Fields v) i n = field_reason v i n
 reason_of Segments03 i n = BodyBreaksRules
 reason_of Segments04 i n = BodyBreaksRules
 reason_of Elements05 i n = BodyBreaksRules
@@ -46,8 +44,7 @@ fields_fault_of fault_of most body =
 
 -- the fault of a body that breaks its rules
 abbrev pub fault_of : Kind → Bytes → Option Refusal
-fault_of Fields02 body = fields_fault Version02 body
-fault_of Fields96 body = fields_fault Version96 body
+fault_of (Fields v) body = fields_fault v body
 fault_of Segments03 body = whole_fault body
 fault_of Segments04 body = whole_fault body
 fault_of Elements05 body = elements_fault element05 body

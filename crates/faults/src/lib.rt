@@ -5,14 +5,14 @@
 ghost use Rattle.std.specs.Prelude.{◌≡◌};
 ghost use Rattle.label.specs.Bytes.{GS};
 ghost use Rattle.label.specs.Pieces.{pieces};
-ghost use Rattle.label.specs.Faults.{first_fault};
-ghost use Rattle.faults.specs.PieceFaults.{field_reason, reason_of, piece_fault, fields_fault_of, fault_of};
+ghost use Rattle.label.specs.Faults.{first_fault, fields_fault};
+ghost use Rattle.faults.specs.PieceFaults.{field_reason, reason_of, piece_fault, fault_of};
 
-use label::{LEAST_FIELDS, MOST_FIELDS_02, MOST_FIELDS_96, Reason, Refusal, Version};
+use label::{LEAST_FIELDS, Reason, Refusal, Version};
 use leaves::GS;
 use pieces::Kind;
 
-// Why a field of so many bytes is refused that isn't as stated: its length, or else its bytes.
+// Why a field of so many bytes is refused that isn't as stated: its length, by its side, which `limits::fits` doesn't tell, or its bytes.
 fn field_reason(version: Version, i: usize, n: usize) -> Reason
     ensures { result ≡ field_reason version i n }
 {
@@ -31,8 +31,7 @@ fn reason_of(k: Kind, i: usize, n: usize) -> Reason
     ensures { result ≡ reason_of k i n }
 {
     match k {
-        Kind::Fields02 => field_reason(Version::Version02, i, n),
-        Kind::Fields96 => field_reason(Version::Version96, i, n),
+        Kind::Fields(version) => field_reason(version, i, n),
         _ => Reason::BodyBreaksRules,
     }
 }
@@ -65,10 +64,11 @@ fn first_fault(k: Kind, s: &[u8]) -> Option<Refusal>
 }
 
 // Fields of a version: their number, with it the last one, and then each from the left.
-fn fields_fault(k: Kind, most: usize, body: &[u8]) -> Option<Refusal>
-    ensures { result ≡ fields_fault_of (piece_fault k) most body.now }
+fn fields_fault(version: Version, body: &[u8]) -> Option<Refusal>
+    ensures { result ≡ fields_fault version body.now }
 {
     let reason = Reason::BadFieldCount;
+    let most = limits::most_fields(version);
     let fields = tallies::tally(body, GS) + 1;
     if (fields < LEAST_FIELDS) | (most < fields) {
         return Some(Refusal { reason, place: 0 });
@@ -79,18 +79,18 @@ fn fields_fault(k: Kind, most: usize, body: &[u8]) -> Option<Refusal>
             place: body.len(),
         });
     }
-    first_fault(k, body)
+    first_fault(Kind::Fields(version), body)
 }
 
 // The fault of a body whose rules don't hold: which piece is refused, why, and where in the body it starts; or no piece by itself, so that
 // the body is refused as a whole.
+#[tactic(auto, unfolding(label::specs::Faults::elements_fault, label::specs::Faults::element_fault))]
 pub fn fault_in(k: Kind, body: &[u8]) -> Option<Refusal>
     ensures { result ≡ fault_of k body.now }
 {
     match k {
-        Kind::Fields02 => fields_fault(k, MOST_FIELDS_02, body),
-        Kind::Fields96 => fields_fault(k, MOST_FIELDS_96, body),
-        // An arm each: so the search is compiled for each kind. In one arm case e of the benchmark takes 181,816 instructions; its bar is 170,300.
+        Kind::Fields(version) => fields_fault(version, body),
+        // An arm each, so that the search is compiled for each: in one arm case e of the benchmark misses its bar (docs/PERFORMANCE.md).
         Kind::Elements05 => first_fault(k, body),
         Kind::Elements06 => first_fault(k, body),
         Kind::Elements12 => first_fault(k, body),

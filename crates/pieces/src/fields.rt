@@ -110,8 +110,6 @@ fn field_bytes(version: Version, i: usize, s: &[u8]) -> bool
 pub(crate) fn field_holds(version: Version, i: usize, s: &[u8]) -> bool
     ensures { result ≡ field version i s.now }
 {
-    let limit = limits::limits_in(version, i);
-    let fits = (usize::from(limit.0) <= s.len()) & (s.len() <= usize::from(limit.1));
-    let right = field_bytes(version, i, s);
-    (fits & right) | ((LEAST_FIELDS <= i) & s.is_empty())
+    (limits::fits(version, i, s.len()) & field_bytes(version, i, s))
+        | ((LEAST_FIELDS <= i) & s.is_empty())
 }

@@ -14,8 +14,7 @@ use label::Version;
 // A body that runs to an RS, by its format, and for 01 its version.
 #[derive(Clone, Copy)]
 pub enum Kind {
-    Fields02,
-    Fields96,
+    Fields(Version),
     Segments03,
     Segments04,
     Elements05,
@@ -29,8 +28,7 @@ pub fn piece_holds(k: Kind, i: usize, p: &[u8]) -> bool
     ensures { result ≡ piece_test k i p.now }
 {
     match k {
-        Kind::Fields02 => fields::field_holds(Version::Version02, i, p),
-        Kind::Fields96 => fields::field_holds(Version::Version96, i, p),
+        Kind::Fields(version) => fields::field_holds(version, i, p),
         Kind::Segments03 => segments::tag_03(segments::first_element(p)),
         Kind::Segments04 => segments::tag_04(segments::first_element(p)),
         Kind::Elements05 => elements::element_05(p),

@@ -23,7 +23,7 @@ use Rattle.formats.specs.Shapes.{rule_for}
 use Rattle.leaves.specs.Seek.{seek}
 use Rattle.leaves.proofs.Turns.{drop_step}
 use Rattle.pieces.specs.declared.Kind.{Kind}
-use Rattle.pieces.specs.declared.Kind.TheVariants.{Fields02, Fields96, Segments03, Segments04, Elements05, Elements06, Text, Elements12}
+use Rattle.pieces.specs.declared.Kind.TheVariants.{Fields, Segments03, Segments04, Elements05, Elements06, Text, Elements12}
 use Rattle.pieces.proofs.SeekLaws.{seek_found}
 use Rattle.envelope.specs.Judged.{closed_at, no_envelope}
 use Rattle.envelope.specs.Shown.{shown}
@@ -67,8 +67,7 @@ module _ (m : Bytes) (from at rows : ℕ) (inside : at < length m) (gs : get_or 
   elements_shown Elements05 f is first = ap (λ f. shown m (read_by (rule_of widest f) first f (drop at m))) is ∙ shown_elements Elements05 element05 5 m at (omega arith) refl (λ body. refl)
   elements_shown Elements06 f is first = ap (λ f. shown m (read_by (rule_of widest f) first f (drop at m))) is ∙ shown_elements Elements06 element06 6 m at (omega arith) refl (λ body. refl)
   elements_shown Elements12 f is first = ap (λ f. shown m (read_by (rule_of widest f) first f (drop at m))) is ∙ shown_elements Elements12 element12 12 m at (omega arith) refl (λ body. refl)
-  elements_shown Fields02 f is first = absurd is
-  elements_shown Fields96 f is first = absurd is
+  elements_shown (Fields v) f is first = absurd is
   elements_shown Segments03 f is first = absurd is
   elements_shown Segments04 f is first = absurd is
   elements_shown Text f is first = absurd is
@@ -79,8 +78,7 @@ module _ (m : Bytes) (from at rows : ℕ) (inside : at < length m) (gs : get_or 
   elements_due Elements05 f is notes noted = subst (Noted m from notes rows) (ap (λ n. opening m n at (rule_of widest n)) is ∙ (λ i. plain_row m Piece (sym is i) (one_ahead m at inside i))) noted
   elements_due Elements06 f is notes noted = subst (Noted m from notes rows) (ap (λ n. opening m n at (rule_of widest n)) is ∙ (λ i. plain_row m Piece (sym is i) (one_ahead m at inside i))) noted
   elements_due Elements12 f is notes noted = subst (Noted m from notes rows) (ap (λ n. opening m n at (rule_of widest n)) is ∙ (λ i. plain_row m Piece (sym is i) (one_ahead m at inside i))) noted
-  elements_due Fields02 f is notes noted = absurd is
-  elements_due Fields96 f is notes noted = absurd is
+  elements_due (Fields v) f is notes noted = absurd is
   elements_due Segments03 f is notes noted = absurd is
   elements_due Segments04 f is notes noted = absurd is
   elements_due Text f is notes noted = absurd is

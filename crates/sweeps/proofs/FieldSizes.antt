@@ -1,21 +1,17 @@
 -- A field whose bytes are plain, and for which the column Bytes asks no more, is right by its length alone.
 use Prim.Native.Nat.{ℕ}
 use mathlib.Core.Path.{◌≡◌, refl, sym, ap, ◌∙◌}
-use mathlib.Core.Bool.{Bool, true, false, ◌&&◌, ◌||◌, true≢false, false≢true}
+use mathlib.Core.Bool.{Bool, true, false, ◌&&◌, ◌||◌, true≢false}
 use borrow.Author.Tests.{eqb-false}
 use lib.ListN.{length, get_or}
 use lib.Dec.{leb, eqb}
 use Rattle.label.specs.Bytes.{Bytes, plain, every, is_empty}
 use Rattle.label.specs.Limits.{limit_of, long_as}
 use Rattle.label.specs.declared.Version.{Version}
-use Rattle.label.specs.declared.Version.TheVariants.{Version02, Version96}
 use Rattle.label.specs.Fields.{field_bytes, least_fields, version_row, field}
 use Rattle.leaves.proofs.Turns.{and_true}
-use Rattle.pieces.specs.declared.Kind.{Kind}
-use Rattle.pieces.specs.declared.Kind.TheVariants.{Fields02, Fields96, Segments03, Segments04, Elements05, Elements06, Text, Elements12}
-use Rattle.pieces.specs.PieceTests.{piece_test}
 use Rattle.pieces.proofs.FieldLaws.{plain_column, no_bytes}
-use Rattle.sweeps.specs.Transport.{fits_in, size_fits}
+use Rattle.sweeps.specs.Transport.{fits_in}
 
 module _ (i : ℕ) (other : ((((eqb i 8 || eqb i 9) || eqb i 10) || eqb i 1) || eqb i 6) ≡ false) (p : Bytes) (ok : every plain p ≡ true) where
   column : (v : Version) → get_or (field_bytes v) i (every plain) p ≡ true
@@ -36,12 +32,5 @@ module _ (i : ℕ) (other : ((((eqb i 8 || eqb i 9) || eqb i 10) || eqb i 1) || 
       let long : Bool = leb (limit_of (version_row v) i).0 (length p) && leb (length p) (limit_of (version_row v) i).1 in
       (λ j. sym (and_true long) j || (leb least_fields i && no_bytes p j)) ∙ ap (λ t. (long && t) || (leb least_fields i && is_empty p)) (sym (column v))
 
-  pub field_sized : (k : Kind) (n : ℕ) → length p ≡ n → size_fits k i n ≡ true → piece_test k i p ≡ true
-  field_sized Fields02 n long fits = sym (version_sized Version02) ∙ ap (fits_in Version02 i) long ∙ fits
-  field_sized Fields96 n long fits = sym (version_sized Version96) ∙ ap (fits_in Version96 i) long ∙ fits
-  field_sized Segments03 n long fits = absurd (false≢true fits)
-  field_sized Segments04 n long fits = absurd (false≢true fits)
-  field_sized Elements05 n long fits = absurd (false≢true fits)
-  field_sized Elements06 n long fits = absurd (false≢true fits)
-  field_sized Elements12 n long fits = absurd (false≢true fits)
-  field_sized Text n long fits = absurd (false≢true fits)
+  pub field_sized : (v : Version) (n : ℕ) → length p ≡ n → fits_in v i n ≡ true → field v i p ≡ true
+  field_sized v n long fits = sym (version_sized v) ∙ ap (fits_in v i) long ∙ fits

@@ -19,7 +19,7 @@ use Rattle.label.proofs.Splitting.{pieces_one, pieces_front}
 use Rattle.leaves.specs.Seek.{seek, tally_of}
 use Rattle.leaves.proofs.Turns.{drop_step, seek_behind, tally_behind}
 use Rattle.pieces.specs.declared.Kind.{Kind}
-use Rattle.pieces.specs.declared.Kind.TheVariants.{Fields02, Fields96, Segments03, Segments04, Elements05, Elements06, Text, Elements12}
+use Rattle.pieces.specs.declared.Kind.TheVariants.{Fields, Segments03, Segments04, Elements05, Elements06, Text, Elements12}
 use Rattle.pieces.specs.PieceTests.{piece_test}
 use Rattle.bodies.specs.Kinds.{permitted_of, rules_of, rows_of_body}
 use Rattle.bodies.proofs.PieceLaws.{leb_same}
@@ -184,8 +184,7 @@ module _ (m : Bytes) (at end before f : ℕ) where
   body_on Elements05 of to is = elements_on element05 m at end before to is
   body_on Elements06 of to is = elements_on element06 m at end before to is
   body_on Elements12 of to is = elements_on element12 m at end before to is
-  body_on Fields02 of to is = absurd of
-  body_on Fields96 of to is = absurd of
+  body_on (Fields v) of to is = absurd of
   body_on Segments03 of to is = absurd of
   body_on Segments04 of to is = absurd of
   body_on Text of to is = absurd of
@@ -195,8 +194,7 @@ module _ (m : Bytes) (at end before f : ℕ) where
   body_last Elements05 of to is = elements_last element05 m at end before to is
   body_last Elements06 of to is = elements_last element06 m at end before to is
   body_last Elements12 of to is = elements_last element12 m at end before to is
-  body_last Fields02 of to is = absurd of
-  body_last Fields96 of to is = absurd of
+  body_last (Fields v) of to is = absurd of
   body_last Segments03 of to is = absurd of
   body_last Segments04 of to is = absurd of
   body_last Text of to is = absurd of

@@ -8,13 +8,14 @@ use borrow.Author.Tests.{ltb-false, eqb-true}
 use lib.ListN.{length, get_or, drop}
 use lib.Dec.{ltb, eqb}
 use Rattle.label.specs.declared.Reason.TheVariants.{BadFormatHeader}
+use Rattle.label.specs.declared.Version.TheVariants.{Version02, Version96}
 use Rattle.label.specs.Bytes.{Bytes, ascii, GS}
 use Rattle.label.specs.Formats.{widest, rule_of}
 use Rattle.label.specs.ReadEnvelope.{read_by}
 use Rattle.label.specs.ReadMessage.{agreement}
 use Rattle.leaves.proofs.Turns.{drop_step}
 use Rattle.pieces.specs.declared.Kind.{Kind}
-use Rattle.pieces.specs.declared.Kind.TheVariants.{Fields02, Fields96}
+use Rattle.pieces.specs.declared.Kind.TheVariants.{Fields}
 use Rattle.envelope.specs.Judged.{closed_at, no_envelope}
 use Rattle.envelope.specs.Bodies.{body_found}
 use Rattle.envelope.specs.Formats.{transport_found}
@@ -70,16 +71,16 @@ module _ (m : Bytes) (at rows : ℕ) (ready : Begins m at) where
         ∙ ap (λ x. GS ∷ (a ∷ (x ∷ drop (at + 3) m))) units
 
     by_version : transport_found m at
-        ≡ cond (eqb (agreement (GS ∷ ascii "02") (GS ∷ (a ∷ (b ∷ drop (at + 3) m)))) 3) (body_found Fields02 2 m (at + 3))
-        (cond (eqb (agreement (GS ∷ ascii "96") (GS ∷ (a ∷ (b ∷ drop (at + 3) m)))) 3) (body_found Fields96 2 m (at + 3))
+        ≡ cond (eqb (agreement (GS ∷ ascii "02") (GS ∷ (a ∷ (b ∷ drop (at + 3) m)))) 3) (body_found (Fields Version02) 2 m (at + 3))
+        (cond (eqb (agreement (GS ∷ ascii "96") (GS ∷ (a ∷ (b ∷ drop (at + 3) m)))) 3) (body_found (Fields Version96) 2 m (at + 3))
         (no_envelope BadFormatHeader))
     by_version =
-        ap (λ bs. cond (eqb (agreement (GS ∷ ascii "02") bs) 3) (body_found Fields02 2 m (at + 3)) (cond (eqb (agreement (GS ∷ ascii "96") bs) 3) (body_found Fields96 2 m (at + 3)) (no_envelope BadFormatHeader))) bytes_there
+        ap (λ bs. cond (eqb (agreement (GS ∷ ascii "02") bs) 3) (body_found (Fields Version02) 2 m (at + 3)) (cond (eqb (agreement (GS ∷ ascii "96") bs) 3) (body_found (Fields Version96) 2 m (at + 3)) (no_envelope BadFormatHeader))) bytes_there
 
-  pub found_02 : get_or m at 0 ≡ GS → get_or m (at + 1) 0 ≡ 0x30 → get_or m (at + 2) 0 ≡ 0x32 → transport_found m at ≡ body_found Fields02 2 m (at + 3)
+  pub found_02 : get_or m at 0 ≡ GS → get_or m (at + 1) 0 ≡ 0x30 → get_or m (at + 2) 0 ≡ 0x32 → transport_found m at ≡ body_found (Fields Version02) 2 m (at + 3)
   found_02 gs tens units = by_version gs 0x30 0x32 tens units
 
-  pub found_96 : get_or m at 0 ≡ GS → get_or m (at + 1) 0 ≡ 0x39 → get_or m (at + 2) 0 ≡ 0x36 → transport_found m at ≡ body_found Fields96 2 m (at + 3)
+  pub found_96 : get_or m at 0 ≡ GS → get_or m (at + 1) 0 ≡ 0x39 → get_or m (at + 2) 0 ≡ 0x36 → transport_found m at ≡ body_found (Fields Version96) 2 m (at + 3)
   found_96 gs tens units = by_version gs 0x39 0x36 tens units
 
   -- the first envelope

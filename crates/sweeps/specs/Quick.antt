@@ -13,7 +13,7 @@ use Rattle.label.specs.ReadMessage.{agreement, reading}
 use Rattle.label.specs.Answer.{rows_read}
 use Rattle.noted.specs.Noted.{note_width}
 use Rattle.pieces.specs.declared.Kind.{Kind}
-use Rattle.pieces.specs.declared.Kind.TheVariants.{Fields02, Fields96, Segments03, Segments04, Elements05, Elements06, Text, Elements12}
+use Rattle.pieces.specs.declared.Kind.TheVariants.{Fields, Segments03, Segments04, Elements05, Elements06, Text, Elements12}
 use Rattle.envelope.specs.Judged.{closed_at}
 use Rattle.envelope.specs.Shown.{shown}
 use Rattle.envelope.specs.Headers.{indicator_of}
@@ -119,8 +119,7 @@ pub record Indicates (m : Bytes) (at f : ℕ) : Type 0 where
 
 -- the formats of elements, by kind of body
 abbrev pub ElementsOf : Kind → ℕ → Type 0
-ElementsOf Fields02 f = ⊥
-ElementsOf Fields96 f = ⊥
+ElementsOf (Fields v) f = ⊥
 ElementsOf Segments03 f = ⊥
 ElementsOf Segments04 f = ⊥
 ElementsOf Elements05 f = f ≡ 5

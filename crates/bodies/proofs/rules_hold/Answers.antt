@@ -3,19 +3,10 @@ use mathlib.Core.Path.{◌∙◌}
 use mathlib.Core.Logic.{inl, inr}
 use Rattle.label.specs.Bytes.{GS}
 use Rattle.label.specs.Pieces.{pieces}
-use Rattle.label.specs.declared.Version.TheVariants.{Version02, Version96}
 use Rattle.label.specs.Elements.{element05, element06, element12}
 use Rattle.label.specs.Segments.{tag, tag03}
-use Rattle.bodies.proofs.RuleLaws.{fields_law, every_elements, segments_law, tag_no_us, tag03_no_us}
+use Rattle.bodies.proofs.RuleLaws.{every_elements, segments_law, tag_no_us, tag03_no_us}
 use Rattle.bodies.proofs.rules_hold.Goals as goal
-
-pub returns-in-Fields02 : goal.returns-in-Fields02
-returns-in-Fields02 c = let is = c.in-Fields02.is in
-    rw is (rw is at c.fields_hold.ensures ∙ fields_law Version02 c.args.body.now)
-
-pub returns-in-Fields96 : goal.returns-in-Fields96
-returns-in-Fields96 c = let is = c.in-Fields96.is in
-    rw is (rw is at c.fields_hold-in-Fields96.ensures ∙ fields_law Version96 c.args.body.now)
 
 pub returns-in-Segments03 : goal.returns-in-Segments03
 returns-in-Segments03 c = elim c.in-Segments03.is [

@@ -1,5 +1,5 @@
--- `fields_fault` makes the tests of `fields_fault_of`: the number of fields, the last one, and then each.
-use mathlib.Core.Path.{sym, ap, ◌∙◌}
+-- `fields_fault` makes the tests of `fields_fault_of`, which together are the definition's: the number of fields, the last one, and then each.
+use mathlib.Core.Path.{sym, ◌∙◌}
 use mathlib.Core.Bool.{◌&&◌, ◌||◌}
 use Prim.Native.Nat.{◌+◌}
 use lib.Dec.{ltb}
@@ -7,6 +7,7 @@ use Rattle.label.specs.Bytes.{GS}
 use Rattle.label.specs.Fields.{least_fields}
 use Rattle.label.proofs.Tests.{cond_yes, cond_no}
 use Rattle.bodies.proofs.RuleLaws.{tally_inside}
+use Rattle.faults.proofs.FaultLaws.{in_fields}
 use borrow.Author.Rules.{rules}
 use Rattle.faults.proofs.fields_fault.Goals as goal
 
@@ -17,19 +18,24 @@ overflow_add-fields c = let is = c.tally-fields.ensures in
 
 pub returns-then-fields-most : goal.returns-then-fields-most
 returns-then-fields-most c = let args = c.args in
-    sym (cond_yes _ _ _ (ap (λ n. ltb (n + 1) least_fields || ltb args.most (n + 1)) (sym c.tally-fields.ensures) ∙ c.if-fields-most.true))
+    sym (cond_yes _ _ _ ((λ j. ltb (sym c.tally-fields.ensures j + 1) least_fields || ltb (sym c.most_fields-most.ensures j) (sym c.tally-fields.ensures j + 1)) ∙ c.if-fields-most.true))
+    ∙ in_fields args.version args.body.now
 
 pub returns-then-fields-last_empty : goal.returns-then-fields-last_empty
 returns-then-fields-last_empty c = let args = c.args in
     let count = sym c.tally-fields.ensures in
+    let most = sym c.most_fields-most.ensures in
     sym
-    (cond_no _ _ _ (ap (λ n. ltb (n + 1) least_fields || ltb args.most (n + 1)) count ∙ c.if-fields-most.false)
+    (cond_no _ _ _ ((λ j. ltb (count j + 1) least_fields || ltb (most j) (count j + 1)) ∙ c.if-fields-most.false)
     ∙ cond_yes _ _ _ ((λ j. ltb least_fields (count j + 1) && sym c.last_empty.ensures j) ∙ c.if-fields-last_empty.true))
+    ∙ in_fields args.version args.body.now
 
 pub returns : goal.returns
 returns c = let args = c.args in
     let count = sym c.tally-fields.ensures in
+    let most = sym c.most_fields-most.ensures in
     c.first_fault.ensures
     ∙ sym
-    (cond_no _ _ _ (ap (λ n. ltb (n + 1) least_fields || ltb args.most (n + 1)) count ∙ c.if-fields-most.false)
+    (cond_no _ _ _ ((λ j. ltb (count j + 1) least_fields || ltb (most j) (count j + 1)) ∙ c.if-fields-most.false)
     ∙ cond_no _ _ _ ((λ j. ltb least_fields (count j + 1) && sym c.last_empty.ensures j) ∙ c.if-fields-last_empty.false))
+    ∙ in_fields args.version args.body.now

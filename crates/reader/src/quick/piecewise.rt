@@ -7,7 +7,7 @@ ghost use Rattle.sweeps.specs.Transport.{PiecesOf, LastOf, LastRight};
 
 use crate::quick::notes::Notes;
 use crate::quick::sweep::Sweep;
-use label::{LEAST_FIELDS, MOST_FIELDS_02, MOST_FIELDS_96};
+use label::LEAST_FIELDS;
 use leaves::{GS, RS};
 use pieces::Kind;
 use sweeps::Unswept;
@@ -25,8 +25,7 @@ fn last_right(k: Kind, count: usize, size: usize) -> bool
     ensures { IfSo result (LastOf k count size) }
 {
     match k {
-        Kind::Fields02 => fields_right(MOST_FIELDS_02, count, size),
-        Kind::Fields96 => fields_right(MOST_FIELDS_96, count, size),
+        Kind::Fields(version) => fields_right(limits::most_fields(version), count, size),
         _ => true,
     }
 }
@@ -38,7 +37,7 @@ impl Sweep<'_> {
         ensures { IfSome result (PassesTo (piece_test k i) self.now.message.now at) }
     {
         match k {
-            Kind::Fields02 | Kind::Fields96 => self.field_end(k, i, at),
+            Kind::Fields(version) => self.field_end(version, i, at),
             Kind::Elements06 => self.end_of_06(at),
             _ => self.piece_end(k, i, at),
         }

@@ -2,10 +2,10 @@
 // all of the quick path does.
 ghost use Rattle.std.specs.Prelude.{◌≡◌, true, ◌<◌, length, IfSome, IfOk};
 ghost use Rattle.label.specs.Formats.{widest, rule_of};
-ghost use Rattle.pieces.specs.PieceTests.{piece_test};
+ghost use Rattle.label.specs.Fields.{field};
 ghost use Rattle.walk.specs.Cursors.{opening};
-ghost use Rattle.sweeps.specs.Quick.{PassesTo, IfSo, FormatSwept, StandsAt};
-ghost use Rattle.sweeps.specs.Transport.{fits_in, size_fits};
+ghost use Rattle.sweeps.specs.Quick.{PassesTo, FormatSwept, StandsAt};
+ghost use Rattle.sweeps.specs.Transport.{fits_in};
 
 use crate::quick::notes::Notes;
 use crate::quick::sweep::Sweep;
@@ -25,35 +25,21 @@ const SHORTEST: usize = FIRST + 4;
 fn in_limits(version: Version, i: usize, size: usize) -> bool
     ensures { result ≡ fits_in version i size }
 {
-    let limit = limits::limits_in(version, i);
-    let least = usize::from(limit.0);
-    let most = usize::from(limit.1);
-    ((least <= size) & (size <= most)) | ((LEAST_FIELDS <= i) & (size == 0))
-}
-
-// The same by the field's kind.
-fn size_fits(k: Kind, i: usize, size: usize) -> bool
-    ensures { IfSo result (size_fits k i size ≡ true) }
-{
-    match k {
-        Kind::Fields02 => in_limits(Version::Version02, i, size),
-        Kind::Fields96 => in_limits(Version::Version96, i, size),
-        _ => false,
-    }
+    limits::fits(version, i, size) | ((LEAST_FIELDS <= i) & (size == 0))
 }
 
 impl Sweep<'_> {
     // The end of the field with an index. Five fields have a rule for their bytes, which `pieces` knows; of the others only the length is
     // asked, as their bytes are plain.
-    pub(crate) fn field_end(&self, k: Kind, i: usize, at: usize) -> Option<usize>
+    pub(crate) fn field_end(&self, version: Version, i: usize, at: usize) -> Option<usize>
         requires { at < length self.now.message.now }
-        ensures { IfSome result (PassesTo (piece_test k i) self.now.message.now at) }
+        ensures { IfSome result (PassesTo (field version i) self.now.message.now at) }
     {
         if (i == 8) | (i == 9) | (i == 10) | (i == 1) | (i == 6) {
-            return self.piece_end(k, i, at);
+            return self.piece_end(Kind::Fields(version), i, at);
         }
         let end = self.run_end(Class::Plain, at);
-        if size_fits(k, i, end - at) {
+        if in_limits(version, i, end - at) {
             return Some(end);
         }
         None
@@ -75,8 +61,8 @@ impl Sweep<'_> {
         let version = (m[at + 1], m[at + 2]);
         notes.count(self.wanted, standing_at(Stage::VersionValue, 1, at + 1, 2))?;
         match version {
-            (b'0', b'2') => self.pieces(Kind::Fields02, 1, at + 3, notes),
-            (b'9', b'6') => self.pieces(Kind::Fields96, 1, at + 3, notes),
+            (b'0', b'2') => self.pieces(Kind::Fields(Version::Version02), 1, at + 3, notes),
+            (b'9', b'6') => self.pieces(Kind::Fields(Version::Version96), 1, at + 3, notes),
             _ => Err(Unswept::Left),
         }
     }

@@ -3,7 +3,8 @@ use Prim.Native.Nat.{ℕ, ◌+◌}
 use mathlib.Core.Path.{refl, sym, subst}
 use native.Mathlib.Omega.{arith}
 use Rattle.std.proofs.lemmas.Result.{IfOk-weaker}
-use Rattle.pieces.specs.declared.Kind.TheVariants.{Fields02, Fields96}
+use Rattle.label.specs.declared.Version.TheVariants.{Version02, Version96}
+use Rattle.pieces.specs.declared.Kind.TheVariants.{Fields}
 use Rattle.walk.specs.declared.Stage.TheVariants.{Piece}
 use Rattle.walk.specs.Cursors.{plain_row}
 use Rattle.sweeps.specs.Quick.{BodySwept, StandsAt}
@@ -59,8 +60,8 @@ returns-in-48-eq50-clause-swept c = let args = c.args in
     let new = rest.new.notes in
     IfOk-weaker rest.result _ _
     (λ next so.
-    transport_swept m args.at rows ready s.wanted.from Fields02 new.numbers.now (record { next = next; rows = new.rows }) found
-    (subst (λ (n : ℕ). BodySwept m s.wanted.from Fields02 (args.at + 3) n (record { next = next; rows = new.rows }) new.numbers.now) c.in_ok-count.ensures.noted.counted so))
+    transport_swept m args.at rows ready s.wanted.from (Fields Version02) new.numbers.now (record { next = next; rows = new.rows }) found
+    (subst (λ (n : ℕ). BodySwept m s.wanted.from (Fields Version02) (args.at + 3) n (record { next = next; rows = new.rows }) new.numbers.now) c.in_ok-count.ensures.noted.counted so))
     rest.ensures.swept
 
 pub returns-in-57-eq54-clause-swept : goal.returns-in-57-eq54-clause-swept
@@ -74,6 +75,6 @@ returns-in-57-eq54-clause-swept c = let args = c.args in
     let new = rest.new.notes in
     IfOk-weaker rest.result _ _
     (λ next so.
-    transport_swept m args.at rows ready s.wanted.from Fields96 new.numbers.now (record { next = next; rows = new.rows }) found
-    (subst (λ (n : ℕ). BodySwept m s.wanted.from Fields96 (args.at + 3) n (record { next = next; rows = new.rows }) new.numbers.now) c.in_ok-count.ensures.noted.counted so))
+    transport_swept m args.at rows ready s.wanted.from (Fields Version96) new.numbers.now (record { next = next; rows = new.rows }) found
+    (subst (λ (n : ℕ). BodySwept m s.wanted.from (Fields Version96) (args.at + 3) n (record { next = next; rows = new.rows }) new.numbers.now) c.in_ok-count.ensures.noted.counted so))
     rest.ensures.swept
