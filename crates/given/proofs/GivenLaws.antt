@@ -91,19 +91,6 @@ unlike_none c = ap (λ t. t && eqb c.format 0 && eqb c.length 0) (some_kind c.st
     some_kind FurtherSubElement = refl
     some_kind Body = refl
 
--- Stretches: a row's does not leave the data, or does
-module _ (held : Bytes) (x rest : List ℕ) (row : Row) (five : length x ≡ row_width) (is : row ≡ row_from x 0) where
-  all_cut : every (inside held) (rows_in (x ++ rest)) ≡ (inside held row && every (inside held) (rows_in rest))
-  all_cut = ap (every (inside held)) (rows_cut x rest five) ∙ ap (λ r. inside held r && every (inside held) (rows_in rest)) (sym is)
-
-  pub lies_inside : row.start + row.length ≤ length held → every (inside held) (rows_in (x ++ rest)) ≡ every (inside held) (rows_in rest)
-  unfolding inside
-  lies_inside lies = all_cut ∙ ap (λ t. t && every (inside held) (rows_in rest)) (le-leb (row.start + row.length) (length held) lies)
-
-  pub lies_outside : length held < row.start + row.length → every (inside held) (rows_in (x ++ rest)) ≡ false
-  unfolding inside
-  lies_outside leaves = all_cut ∙ ap (λ t. t && every (inside held) (rows_in rest)) (lt-leb (row.start + row.length) (length held) leaves)
-
 -- Ordinals
 
 -- what counting on says of rows, behind a row with an ordinal

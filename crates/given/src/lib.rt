@@ -35,7 +35,7 @@ pub fn row_at(rows: &[u32], at: usize) -> Option<Given>
     }
 }
 
-// The same, and zeros where they don't all stand there: there is an answer in any case, as docs/promises has it.
+// The same, and zeros where they don't all stand there: there is an answer in any case and for any index, as docs/promises has it.
 pub fn row_from(rows: &[u32], at: usize) -> Given
     ensures { as_row result ≡ row_or_none rows.now at }
 {
@@ -51,13 +51,8 @@ pub fn row_from(rows: &[u32], at: usize) -> Given
 fn all_inside(held: &[u8], rows: &[u32]) -> bool
     ensures { result ≡ every (inside held.now) (rows_in rows.now) }
 {
-    for numbers in rows.chunks_exact(ROW) {
-        let row = row_at(numbers, 0).unwrap();
-        if held.len() < row.start as usize + row.length as usize {
-            return false;
-        }
-    }
-    true
+    let (rows, _) = rows.as_chunks::<ROW>();
+    rows.iter().all(|[_, _, start, length, _]| *start as usize + *length as usize <= held.len())
 }
 
 // Whether the rows are whole, not too many, and their stretches in the data.
@@ -95,7 +90,8 @@ pub fn ordinals_counted(rows: &[u32]) -> bool
     true
 }
 
-// Whether there is a row from an index on, as `row_from` has it, with the kind, the format and the length of that a cursor stands at.
+// Whether there is a row from an index on, as `row_from` has it, with the kind, the format and the length of that a cursor stands at. Its
+// promise, in docs/promises, is for any index, though the writer has each row's numbers alone and asks at 0.
 pub fn like(c: Cursor, rows: &[u32], at: usize) -> bool
     ensures { result ≡ alike_row (row_of c) (row_or_none rows.now at) }
 {

@@ -1,30 +1,20 @@
 -- How rows get into a table: five stores put a row, and a row that is put stands behind those that stand already. And which rows notes are.
-use Prim.Native.Nat.{ℕ, zero, suc, ◌+◌, ◌*◌, ◌/◌, ◌≤◌, ◌<◌}
+use Prim.Native.Nat.{ℕ, zero, suc, ◌+◌, ◌-◌, ◌*◌, ◌/◌, ◌≤◌, ◌<◌}
 use mathlib.Core.Path.{◌≡◌, refl, sym, ap, ◌∙◌}
 use mathlib.Core.List.{List, [], ◌∷◌, ◌++◌, map, append_assoc}
 use native.Mathlib.Omega.{arith}
 use native.Mathlib.Numerals.{add-one}
-use lib.ListN.{length, get_or, take, drop, set, length-append, length-drop, length-map}
-use lib.Seq.{sets-eq, take_at, take-add, take_all, length-take-le, drop-drop, drop-append-add}
+use lib.ListN.{length, get_or, take, drop, length-append, length-drop, length-map}
+use lib.Seq.{drop-cons, get_or-drop, take_at, take-add, take_all, length-take-le, drop-drop, drop-append-add}
+use Rattle.std.specs.Simd.{first_chunks}
 use Rattle.label.specs.Limits.{row_width}
 use Rattle.label.specs.Layout.{Row, numbers, all_numbers}
-use Rattle.label.specs.Answer.{accepted, overlaid}
+use Rattle.label.specs.Answer.{overlaid}
 use Rattle.label.specs.Counting.{row_from, kinds_of, raised, by_counting}
-use Rattle.label.proofs.Ordinals.{kind_at, counted_long, counted_first, counted_step, counted_small}
+use Rattle.label.proofs.Ordinals.{kind_at, counted_long, counted_step}
 use Rattle.label.proofs.Answers.{numbers_wide}
-use Rattle.leaves.proofs.Turns.{drop_step, four_there}
-use Rattle.noted.specs.Noted.{note_width, rows_noted, Copies}
-
-pub five_stores : (t : List ℕ) (at a b c d e : ℕ) → at + row_width ≤ length t
-    → set (set (set (set (set t at a) (at + 1) b) (at + 2) c) (at + 3) d) (at + 4) e ≡ take at t ++ ((a ∷ b ∷ c ∷ d ∷ e ∷ []) ++ drop (at + row_width) t)
-five_stores t at a b c d e fits =
-    let p : at + 1 ≡ suc at = omega arith in
-    let q : at + 2 ≡ suc (suc at) = omega arith in
-    let r : at + 3 ≡ suc (suc (suc at)) = omega arith in
-    let s : at + 4 ≡ suc (suc (suc (suc at))) = omega arith in
-    (λ i. set (set (set (set (set t at a) (p i) b) (q i) c) (r i) d) (s i) e)
-    ∙ sets-eq (a ∷ b ∷ c ∷ d ∷ e ∷ []) t at fits
-    ∙ append_assoc (take at t) (a ∷ b ∷ c ∷ d ∷ e ∷ []) (drop (at + row_width) t)
+use Rattle.leaves.proofs.Turns.{drop_step, take_rest}
+use Rattle.noted.specs.Noted.{note_width, rows_noted, rows_by}
 
 -- numbers put behind those that a table has in front of what it held
 put_behind : (front new old table : List ℕ) (n wide : ℕ) → length front ≡ n → table ≡ front ++ drop n old → take n table ++ (new ++ drop (n + wide) table) ≡ (front ++ new) ++ drop (n + wide) old
@@ -94,111 +84,64 @@ noted_long (k ∷ (f ∷ [])) = refl
 noted_long (k ∷ (f ∷ (s ∷ []))) = refl
 noted_long (k ∷ (f ∷ (s ∷ (l ∷ ns)))) = let more = noted_long ns in omega arith
 
-pub counts_noted : (envelopes : ℕ) (ns : List ℕ) → accepted envelopes (length ns / note_width) ≡ accepted envelopes (length (rows_noted ns))
-counts_noted envelopes ns = ap (accepted envelopes) (sym (noted_long ns))
-
-noted_step : (ns : List ℕ) (at : ℕ) → at + note_width ≤ length ns → rows_noted (drop at ns) ≡ row_from ns at ∷ rows_noted (drop (at + note_width) ns)
-noted_step ns at fits = ap rows_noted (four_there ns at fits)
+-- notes cut out of numbers have the rows that the numbers have
+pub noted_by_fours : (k : ℕ) (ns : List ℕ) → k * note_width ≤ length ns → length ns < k * note_width + note_width → rows_by (first_chunks note_width k ns) ≡ rows_noted ns
+noted_by_fours zero [] room short = refl
+noted_by_fours zero (k ∷ []) room short = refl
+noted_by_fours zero (k ∷ (f ∷ [])) room short = refl
+noted_by_fours zero (k ∷ (f ∷ (s ∷ []))) room short = refl
+noted_by_fours zero (k ∷ (f ∷ (s ∷ (l ∷ ns)))) room short = absurd (omega arith)
+noted_by_fours (suc n) [] room short = absurd (omega arith)
+noted_by_fours (suc n) (k ∷ []) room short = absurd (omega arith)
+noted_by_fours (suc n) (k ∷ (f ∷ [])) room short = absurd (omega arith)
+noted_by_fours (suc n) (k ∷ (f ∷ (s ∷ []))) room short = absurd (omega arith)
+noted_by_fours (suc n) (k ∷ (f ∷ (s ∷ (l ∷ ns)))) room short = ap (λ rs. record { kind = k; format = f; start = s; length = l } ∷ rs) (noted_by_fours n ns (omega arith) (omega arith))
 
 -- the row that a note has, and those behind it
-noted_drop : (ns : List ℕ) (i : ℕ) → note_width * i ≤ length ns → drop i (rows_noted ns) ≡ rows_noted (drop (note_width * i) ns)
-noted_drop ns zero fits = refl
-noted_drop ns (suc i) fits =
-    let at : note_width * i + note_width ≡ note_width * suc i = omega arith in
-    ap (λ n. drop n (rows_noted ns)) (sym (add-one i))
-    ∙ sym (drop-drop 1 i (rows_noted ns))
-    ∙ ap (drop 1) (noted_drop ns i (omega arith) ∙ noted_step ns (note_width * i) (omega arith))
-    ∙ ap (λ n. rows_noted (drop n ns)) at
+noted_at : (notes : List (List ℕ)) (i : ℕ) → get_or (rows_by notes) i (row_from [] 0) ≡ row_from (get_or notes i []) 0
+noted_at [] zero = refl
+noted_at [] (suc i) = refl
+noted_at (note ∷ notes) zero = refl
+noted_at (note ∷ notes) (suc i) = noted_at notes i
 
-pub noted_here : (ns : List ℕ) (i : ℕ) → note_width * i + note_width ≤ length ns → drop i (rows_noted ns) ≡ row_from ns (note_width * i) ∷ rows_noted (drop (note_width * i + note_width) ns)
-noted_here ns i fits = noted_drop ns i (omega arith) ∙ noted_step ns (note_width * i) fits
+pub noted_here : (notes : List (List ℕ)) (i : ℕ) → i < length notes → drop i (rows_by notes) ≡ row_from (get_or notes i []) 0 ∷ drop (i + 1) (rows_by notes)
+noted_here notes i inside =
+    drop-cons (rows_by notes) i (row_from [] 0) (omega (arith, length-map notes (λ note. row_from note 0)))
+    ∙ (λ j. noted_at notes i j ∷ drop (sym (add-one i) j) (rows_by notes))
 
--- its kind
-pub noted_kind : (ns : List ℕ) (i : ℕ) → note_width * i + note_width ≤ length ns → get_or (kinds_of (rows_noted ns)) i 0 ≡ get_or ns (note_width * i) 0
-noted_kind ns i fits = kind_at (rows_noted ns) i _ _ (noted_here ns i fits)
+-- the note at a place behind the first
+pub noted_later : (notes : List (List ℕ)) (i : ℕ) → get_or (take (length notes - 1) (drop 1 notes)) i [] ≡ get_or notes (i + 1) []
+noted_later notes i = ap (λ ns. get_or ns i []) (take_rest notes 1) ∙ get_or-drop 1 notes i [] ∙ ap (λ n. get_or notes n []) (omega arith)
 
-module _ (notes : List ℕ) (rows : ℕ) (table : List ℕ) (copies : Copies notes rows table) where
-  pub all_noted : rows ≡ length (rows_noted notes)
-  all_noted = copies.counted ∙ sym (noted_long notes)
+pub all_fit : (notes : List (List ℕ)) (old : List ℕ) → row_width * length notes ≤ length old → row_width * length (rows_by notes) ≤ length old
+all_fit notes old roomy = omega (arith, roomy, length-map notes (λ note. row_from note 0))
 
-  pub all_fit : row_width * length (rows_noted notes) ≤ length table
-  all_fit = omega (arith, all_noted, copies.roomy)
+-- Ordinals of rows of one envelope, and of several
 
-  pub note_fits : (i : ℕ) → i < rows → note_width * i + note_width ≤ length notes
-  note_fits i less = omega (arith, copies.counted)
+abbrev pub zeros_of : List Row → List ℕ
+zeros_of rs = map (λ (r : Row). 0) rs
 
--- Rows of one envelope
+pub zeros_many : (rs : List Row) → length (zeros_of rs) ≡ length rs
+zeros_many rs = length-map rs (λ (r : Row). 0)
 
-zero_at : (rs : List Row) (i : ℕ) → ◌≡◌ {A = ℕ} 0 (get_or (map (λ (r : Row). 0) rs) i 0)
+pub zero_at : (rs : List Row) (i : ℕ) → ◌≡◌ {A = ℕ} 0 (get_or (zeros_of rs) i 0)
 zero_at [] zero = refl
 zero_at [] (suc i) = refl
 zero_at (r ∷ rs) zero = refl
 zero_at (r ∷ rs) (suc i) = zero_at rs i
 
-abbrev pub zeros_of : List Row → List ℕ
-zeros_of rs = map (λ (r : Row). 0) rs
+abbrev pub counted_of : List (List ℕ) → List ℕ
+counted_of notes = by_counting (kinds_of (rows_by notes))
 
-module _ (notes : List ℕ) (rows : ℕ) (old : List ℕ) (copies : Copies notes rows old) (table : List ℕ) (i : ℕ) (put : Put (rows_noted notes) (zeros_of (rows_noted notes)) old table i) where
-  pub alone_length : length table ≡ length old
-  alone_length = put_length (rows_noted notes) (zeros_of (rows_noted notes)) old (length-map (rows_noted notes) (λ (r : Row). 0)) (all_fit notes rows old copies) table i put
+pub kinds_many : (notes : List (List ℕ)) → length (kinds_of (rows_by notes)) ≡ length notes
+kinds_many notes = length-map (rows_by notes) (λ (r : Row). r.kind) ∙ length-map notes (λ note. row_from note 0)
 
-  pub alone_last : rows ≤ i → table ≡ overlaid (all_numbers (rows_noted notes) (zeros_of (rows_noted notes))) old
-  alone_last last = put_last (rows_noted notes) (zeros_of (rows_noted notes)) old (length-map (rows_noted notes) (λ (r : Row). 0)) (all_fit notes rows old copies) table i put (omega (arith, all_noted notes rows old copies))
+pub counted_many : (notes : List (List ℕ)) → length (counted_of notes) ≡ length (rows_by notes)
+counted_many notes = counted_long (kinds_of (rows_by notes)) ∙ length-map (rows_by notes) (λ (r : Row). r.kind)
 
-  pub alone_next : i < rows → (table' : List ℕ) → table' ≡ take (row_width * i) table ++ (numbers (row_from notes (note_width * i)) 0 ++ drop (row_width * i + row_width) table)
-      → Put (rows_noted notes) (zeros_of (rows_noted notes)) old table' (i + 1)
-  alone_next less table' new =
-      put_next (rows_noted notes) (zeros_of (rows_noted notes)) old (length-map (rows_noted notes) (λ (r : Row). 0)) (all_fit notes rows old copies) table i put _ _
-      (noted_here notes i (note_fits notes rows old copies i less)) 0 (zero_at (rows_noted notes) i) table' new
-
--- Rows of several envelopes
-
-abbrev counted_of : List ℕ → List ℕ
-counted_of notes = by_counting (kinds_of (rows_noted notes))
-
--- a row is put and those before it, and this is its ordinal
-pub record PutUpTo (notes old table : List ℕ) (ordinal i : ℕ) : Type 0 where
-  pub own : ordinal ≡ get_or (counted_of notes) i 0
-  pub put : Put (rows_noted notes) (counted_of notes) old table (i + 1)
-
-module _ (notes : List ℕ) (rows : ℕ) (old : List ℕ) (copies : Copies notes rows old) where
-  as_many : length (counted_of notes) ≡ length (rows_noted notes)
-  as_many = counted_long (kinds_of (rows_noted notes)) ∙ length-map (rows_noted notes) (λ (r : Row). r.kind)
-
-  pub several_none : rows ≡ 0 → old ≡ overlaid (all_numbers (rows_noted notes) (counted_of notes)) old
-  several_none none =
-      put_last (rows_noted notes) (counted_of notes) old as_many (all_fit notes rows old copies) old 0 (put_first (rows_noted notes) (counted_of notes) old)
-      (omega (arith, all_noted notes rows old copies))
-
-  pub several_first : 0 < rows → (table : List ℕ) → table ≡ take 0 old ++ (numbers (row_from notes 0) 0 ++ drop row_width old) → PutUpTo notes old table 0 0
-  several_first some table new = record {
-    own = sym (counted_first (kinds_of (rows_noted notes)));
-    put = put_next (rows_noted notes) (counted_of notes) old as_many (all_fit notes rows old copies) old 0 (put_first (rows_noted notes) (counted_of notes) old) _ _
-        (noted_here notes 0 (note_fits notes rows old copies 0 some)) 0 (sym (counted_first (kinds_of (rows_noted notes)))) table new;
-  }
-
-  module _ (table : List ℕ) (ordinal i : ℕ) (up_to : PutUpTo notes old table ordinal i) where
-    pub several_length : length table ≡ length old
-    several_length = put_length (rows_noted notes) (counted_of notes) old as_many (all_fit notes rows old copies) table (i + 1) up_to.put
-
-    pub several_last : rows ≤ i + 1 → table ≡ overlaid (all_numbers (rows_noted notes) (counted_of notes)) old
-    several_last last = put_last (rows_noted notes) (counted_of notes) old as_many (all_fit notes rows old copies) table (i + 1) up_to.put (omega (arith, all_noted notes rows old copies))
-
-    module _ (less : i + 1 < rows) where
-      kinds_many : i + 1 < length (kinds_of (rows_noted notes))
-      kinds_many = omega (arith, all_noted notes rows old copies, length-map (rows_noted notes) (λ (r : Row). r.kind))
-
-      pub several_small : ordinal ≤ i
-      several_small = omega (arith, up_to.own, counted_small (kinds_of (rows_noted notes)) i (omega (arith, kinds_many)))
-
-      pub several_next : (at : ℕ) → at ≡ i + 1 → (o : ℕ) → o ≡ raised ordinal (get_or notes (note_width * at) 0) → (table' : List ℕ)
-          → table' ≡ take (row_width * at) table ++ (numbers (row_from notes (note_width * at)) o ++ drop (row_width * at + row_width) table) → PutUpTo notes old table' o (i + 1)
-      several_next at here o is table' new =
-          let fits = note_fits notes rows old copies (i + 1) less in
-          let own : o ≡ get_or (counted_of notes) (i + 1) 0 =
-          is ∙ (λ j. raised (up_to.own j) ((ap (λ n. get_or notes (note_width * n) 0) here ∙ sym (noted_kind notes (i + 1) fits)) j)) ∙ sym (counted_step (kinds_of (rows_noted notes)) i kinds_many) in
-          record {
-            own = own;
-            put = put_next (rows_noted notes) (counted_of notes) old as_many (all_fit notes rows old copies) table (i + 1) up_to.put _ _ (noted_here notes (i + 1) fits) o own table'
-                (new ∙ (λ j. take (row_width * here j) table ++ (numbers (row_from notes (note_width * here j)) o ++ drop (row_width * here j + row_width) table)));
-          }
+-- the ordinal of the next row
+pub counted_on : (notes : List (List ℕ)) (i : ℕ) → i + 1 < length notes → (ordinal : ℕ) → ordinal ≡ get_or (counted_of notes) i 0
+    → raised ordinal (get_or (get_or notes (i + 1) []) 0 0) ≡ get_or (counted_of notes) (i + 1) 0
+counted_on notes i less ordinal own =
+    let kind = kind_at (rows_by notes) (i + 1) _ _ (noted_here notes (i + 1) less) in
+    (λ j. raised (own j) (sym kind j)) ∙ sym (counted_step (kinds_of (rows_by notes)) i (omega (arith, kinds_many notes)))

@@ -1,11 +1,11 @@
 -- What becomes of rows that are noted, whatever rows they are.
-use Rattle.std.specs.Prelude.{ℕ, ◌+◌, ◌*◌, ◌/◌, ◌≤◌, ◌≡◌, Bool, ◌&&◌, cond, List, [], ◌∷◌, map, length, get_or, ltb}
+use Rattle.std.specs.Prelude.{ℕ, Bool, ◌&&◌, cond, List, [], ◌∷◌, map, length, get_or, ltb}
 use Rattle.label.specs.declared.Reason.TheVariants.{TooManyRows, NoRoom}
 use Rattle.label.specs.declared.Stretch.{Stretch}
-use Rattle.label.specs.Limits.{most_rows, row_width}
+use Rattle.label.specs.Limits.{most_rows}
 use Rattle.label.specs.Layout.{Row, all_numbers}
 use Rattle.label.specs.Answer.{accepted, refusal, room_of, overlaid}
-use Rattle.label.specs.Counting.{kinds_of, by_counting}
+use Rattle.label.specs.Counting.{row_from, kinds_of, by_counting}
 
 -- how many numbers a row is in the notes: all but the ordinal
 abbrev pub note_width : ℕ
@@ -18,6 +18,10 @@ rows_noted (k ∷ []) = []
 rows_noted (k ∷ (f ∷ [])) = []
 rows_noted (k ∷ (f ∷ (s ∷ []))) = []
 rows_noted (k ∷ (f ∷ (s ∷ (l ∷ ns)))) = record { kind = k; format = f; start = s; length = l } ∷ rows_noted ns
+
+-- the rows of notes that are given each by itself
+abbrev pub rows_by : List (List ℕ) → List Row
+rows_by notes = map (λ note. row_from note 0) notes
 
 -- the ordinals of rows of so many envelopes: those of one alone are 0, those of several are counted
 abbrev pub ordinals_noted : ℕ → List Row → List ℕ
@@ -40,16 +44,6 @@ table_from envelopes notes table =
     cond (ltb (room_of table) (length (rows_noted notes))) table
     (cond (too_many envelopes (rows_noted notes)) table
     (overlaid (all_numbers (rows_noted notes) (ordinals_noted envelopes (rows_noted notes))) table))
-
--- so many rows are noted, and a table has room for them
-pub record Copies (notes : List ℕ) (rows : ℕ) (table : List ℕ) : Type 0 where
-  pub counted : rows ≡ length notes / note_width
-  pub roomy : row_width * rows ≤ length table
-
--- a note, and room for its row
-pub record OneCopied (notes : List ℕ) (from : ℕ) (table : List ℕ) (at : ℕ) : Type 0 where
-  pub noted : from + note_width ≤ length notes
-  pub roomy : at + row_width ≤ length table
 
 -- the stretch of a row by its note
 abbrev pub stretch_from : ℕ → ℕ → List ℕ → Stretch

@@ -2,12 +2,12 @@
 // What rows they are is no matter here; `reader` notes those of a message.
 #![tactic(auto)]
 
-ghost use Rattle.std.specs.Prelude.{◌≡◌, ◌++◌, map, ◌+◌, ◌≤◌, take, drop};
+ghost use Rattle.std.specs.Prelude.{◌≡◌, ◌++◌, map, ◌+◌, ◌*◌, ◌≤◌, length, take, drop};
 ghost use Rattle.label.specs.Limits.{most_rows, row_width};
 ghost use Rattle.label.specs.Layout.{Row, numbers, all_numbers};
 ghost use Rattle.label.specs.Answer.{answer_of, room_of, overlaid};
 ghost use Rattle.label.specs.Counting.{row_from, kinds_of, raised, by_counting};
-ghost use Rattle.noted.specs.Noted.{rows_noted, answer_from, table_from, Copies, OneCopied, stretch_from};
+ghost use Rattle.noted.specs.Noted.{rows_by, answer_from, table_from, stretch_from};
 
 use label::{Counts, MOST_ROWS, ROW, Reading, Reason, Refusal, Stretch};
 
@@ -17,26 +17,23 @@ pub const NOTE: usize = 4;
 
 pub const NOTES: usize = NOTE * MOST_ROWS;
 
-// Copies a row's numbers from a note into a table, its envelope's ordinal behind them.
-// By index: of a table whose `chunks_exact_mut` were written a proof knows the length alone, and `hand_over` promises each number.
-fn copy_row(notes: &[u16], from: usize, table: &mut [u32], at: usize, ordinal: u32)
-    requires { OneCopied notes.now from table.old at }
-    ensures { table.new ≡ take at table.old ++ (numbers (row_from notes.now from) ordinal ++ drop (at + row_width) table.old) }
+// Copies a row's numbers from its note into a table, from an index on, its envelope's ordinal behind them. No part of the table is lent by
+// itself: of one whose `as_chunks_mut` was written a proof knows the length alone, and `hand_over` promises each number.
+fn copy_row(note: &[u16; NOTE], table: &mut [u32], at: usize, ordinal: u32)
+    requires { at + row_width ≤ length table.old }
+    ensures { table.new ≡ take at table.old ++ (numbers (row_from note.now 0) ordinal ++ drop (at + row_width) table.old) }
 {
-    table[at] = u32::from(notes[from]);
-    table[at + 1] = u32::from(notes[from + 1]);
-    table[at + 2] = u32::from(notes[from + 2]);
-    table[at + 3] = u32::from(notes[from + 3]);
-    table[at + 4] = ordinal;
+    let [kind, format, start, length] = note.map(u32::from);
+    table[at..at + ROW].copy_from_slice(&[kind, format, start, length, ordinal]);
 }
 
 // Copies the rows of one envelope, or of none; what lies behind them in the table stays as it was.
-fn copy_alone(notes: &[u16], rows: usize, table: &mut [u32])
-    requires { Copies notes.now rows table.old }
-    ensures { table.new ≡ overlaid (all_numbers (rows_noted notes.now) (map (λ (r : Row). 0) (rows_noted notes.now))) table.old }
+fn copy_alone(notes: &[[u16; NOTE]], table: &mut [u32])
+    requires { row_width * length notes.now ≤ length table.old }
+    ensures { table.new ≡ overlaid (all_numbers (rows_by notes.now) (map (λ (r : Row). 0) (rows_by notes.now))) table.old }
 {
-    for i in 0..rows {
-        copy_row(notes, NOTE * i, table, ROW * i, 0);
+    for (i, note) in notes.iter().enumerate() {
+        copy_row(note, table, ROW * i, 0);
     }
 }
 
@@ -51,18 +48,19 @@ fn raised_by(ordinal: u32, kind: u16) -> u32
 }
 
 // Copies the rows of several envelopes, counted by their indicators.
-fn copy_several(notes: &[u16], rows: usize, table: &mut [u32])
-    requires { Copies notes.now rows table.old × (rows ≤ most_rows) }
-    ensures { table.new ≡ overlaid (all_numbers (rows_noted notes.now) (by_counting (kinds_of (rows_noted notes.now)))) table.old }
+fn copy_several(notes: &[[u16; NOTE]], table: &mut [u32])
+    requires roomy { row_width * length notes.now ≤ length table.old }
+    requires few { length notes.now ≤ most_rows }
+    ensures { table.new ≡ overlaid (all_numbers (rows_by notes.now) (by_counting (kinds_of (rows_by notes.now)))) table.old }
 {
-    if rows == 0 {
+    let [first, later @ ..] = notes else {
         return;
-    }
-    copy_row(notes, 0, table, 0, 0);
+    };
+    copy_row(first, table, 0, 0);
     let mut ordinal = 0;
-    for i in 1..rows {
-        ordinal = raised_by(ordinal, notes[NOTE * i]);
-        copy_row(notes, NOTE * i, table, ROW * i, ordinal);
+    for (i, note) in later.iter().enumerate() {
+        ordinal = raised_by(ordinal, note[0]);
+        copy_row(note, table, ROW * (i + 1), ordinal);
     }
 }
 
@@ -73,7 +71,8 @@ pub fn hand_over(envelopes: usize, notes: &[u16], table: &mut [u32]) -> Reading
     ensures answer { answer_of result ≡ answer_from envelopes notes.now (room_of table.old) }
     ensures rows { table.new ≡ table_from envelopes notes.now table.old }
 {
-    let rows = notes.len() / NOTE;
+    let (notes, _) = notes.as_chunks::<NOTE>();
+    let rows = notes.len();
     if table.len() < ROW * rows {
         return Err(Refusal {
             reason: Reason::NoRoom,
@@ -81,7 +80,7 @@ pub fn hand_over(envelopes: usize, notes: &[u16], table: &mut [u32]) -> Reading
         });
     }
     if envelopes < 2 {
-        copy_alone(notes, rows, table);
+        copy_alone(notes, table);
         return Ok(Counts { envelopes, rows });
     }
     if MOST_ROWS < rows {
@@ -90,7 +89,7 @@ pub fn hand_over(envelopes: usize, notes: &[u16], table: &mut [u32]) -> Reading
             place: 0,
         });
     }
-    copy_several(notes, rows, table);
+    copy_several(notes, table);
     Ok(Counts { envelopes, rows })
 }
 

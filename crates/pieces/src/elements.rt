@@ -25,6 +25,7 @@ fn capital_and_more(s: &[u8]) -> bool
 }
 
 // 06: zero to three digits, one capital, then at least one byte.
+// `take_while` and `count` over the first bytes take case e of the benchmark over its bar (docs/PERFORMANCE.md).
 pub(crate) fn element_06(s: &[u8]) -> bool
     ensures { result ≡ element06 s.now }
 {

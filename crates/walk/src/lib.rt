@@ -7,7 +7,6 @@ ghost use Rattle.std.specs.Prelude.{◌≡◌, drop};
 ghost use Rattle.walk.specs.Cursors.{count_from, kind_of, standing};
 
 use label::LONGEST;
-use leaves::Class;
 
 // What a row is: the indicator; a header value (the version of 01, the six bytes of 03 and 04, type, compression and count
 // of 09 and 15); a field or an element of 01, 05, 06 or 12; a tag, the first sub-element of a later element, or a further one; a body.
@@ -36,7 +35,7 @@ pub struct Cursor {
     pub length: usize,
 }
 
-// The kind of a row.
+// The kind of a row. Kinds are the paper's numbers, and several stages share one, so that a stage has no discriminant of its own.
 pub fn kind_of(stage: Stage) -> u32
     ensures { result ≡ kind_of stage }
 {
@@ -71,15 +70,16 @@ pub fn standing_at(stage: Stage, format: u32, at: usize, n: usize) -> Cursor
 pub fn count_from(m: &[u8], at: usize) -> usize
     ensures { result ≡ count_from 0 (drop at m.now) }
 {
-    let mut n = 0;
-    for i in at..m.len() {
-        let b = m[i];
-        if !leaves::in_class(Class::Digit, b) {
-            return n;
-        }
-        if n < LONGEST {
-            n = 10 * n + usize::from(b - b'0');
-        }
-    }
-    n
+    m.get(at..)
+        .unwrap_or(&[])
+        .iter()
+        .map_while(|b| leaves::digit(*b))
+        .fold(
+            0,
+            |n, d| if n < LONGEST {
+                10 * n + usize::from(d)
+            } else {
+                n
+            },
+        )
 }

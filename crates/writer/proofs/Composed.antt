@@ -32,11 +32,6 @@ from_nothing : (edition : Edition) → composed edition [] [] ≡ None
 unfolding all_definitions
 from_nothing edition = refl
 
-rendered_some : (is : List Item) → 0 < length (rendered is)
-unfolding rendered
-rendered_some [] = omega arith
-rendered_some (i ∷ is) = omega arith
-
 pub some_numbers : (ns : List ℕ) → eqb (length ns) 0 ≡ false → 0 < length ns
 some_numbers [] is = cc
 some_numbers (n ∷ ns) is = omega arith

@@ -76,9 +76,6 @@ module _ (held : Bytes) (ns out : Bytes) where
     whole = (λ j. starts j ++ behind held None (rows_in (is j))) ∙ behind_header held (rows_in ns);
   }
 
-  pub header_long : longest < length header → longest < length (rendered (items_in held ns))
-  header_long long = absurd (omega arith)
-
   module _ (before : Option Row) (left x rest : List ℕ) (row : Row) (turn : Turn held ns out before left) (cut : left ≡ x ++ rest) (five : length x ≡ row_width) (is : row ≡ row_from x 0) where
     split : rows_in left ≡ row ∷ rows_in rest
     split = ap rows_in cut ∙ rows_cut x rest five ∙ ap (λ r. r ∷ rows_in rest) (sym is)
@@ -104,9 +101,6 @@ module _ (held : Bytes) (ns out : Bytes) where
 
   -- behind the last row
   module _ (left : List ℕ) (short : length left < row_width) where
-    pub ends_none : Turn held ns out None left → out ≡ rendered (items_in held ns)
-    ends_none turn = sym (append-nil out) ∙ ap (λ rs. out ++ behind held None rs) (sym (no_row_left left short)) ∙ turn.whole
-
     module _ (p : Row) (turn : Turn held ns out (Some p) left) where
       whole_last : out ++ ending (rule_of widest p.format) p.kind ≡ rendered (items_in held ns)
       whole_last = ap (λ b. out ++ b) (sym (ap (behind held (Some p)) (no_row_left left short) ∙ behind_last held p)) ∙ turn.whole

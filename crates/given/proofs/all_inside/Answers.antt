@@ -1,30 +1,32 @@
-use mathlib.Core.Path.{sym, ap, ◌∙◌}
-use borrow.Author.Rules.{rules}
-use Rattle.std.specs.Slice.Iter.{chunks_exact_rest}
-use Rattle.label.specs.Bytes.{every}
+-- `all_inside` asks of each five numbers in turn.
+use Rattle.std.proofs.Common.{ℕ, zero, suc, ◌+◌, ◌*◌, ◌/◌, ◌<◌, ◌≤◌, ◌≡◌, ◌∙◌, sym, ap, ◌&&◌, List, length, take, drop, arith, rules}
+use Rattle.std.specs.Simd.{first_chunks}
+use Rattle.std.specs.List.{list_all}
+use Rattle.std.proofs.lemmas.Iterator.{YieldsList-from_slice}
+use Rattle.std.proofs.lemmas.Iterator.Search.{all_from_yields_List}
+use borrow.Author.Tests.{tests}
+use lib.ListN.{length-take, length-drop, take-append-drop}
+use Rattle.label.specs.Bytes.{Bytes, every}
+use Rattle.label.specs.Limits.{row_width}
+use Rattle.label.specs.Counting.{row_from}
 use Rattle.label.specs.Writing.{rows_in, inside}
-use Rattle.given.specs.Given.{as_row}
-use Rattle.given.proofs.GivenLaws.{row_here, lies_inside, lies_outside}
+use Rattle.given.proofs.GivenLaws.{rows_cut, no_row_left}
 use Rattle.given.proofs.all_inside.Goals as goal
 
-pub returns-then-held-row : goal.returns-then-held-row
-returns-then-held-row c = let held = c.args.held.now in
-    let at = c.loop-numbers.invariant in
-    let cut = c.in-Some.ensures.steps in
-    let x = c.in-Some.numbers.now in
-    let five = cut.1.1 ∙ at.2 in
-    let row = row_here x c.row_at.result c.unwrap-row.result five c.row_at.ensures c.unwrap-row.ensures in
-    sym (sym at.3 ∙ ap (λ ns. every (inside held) (rows_in ns)) cut.1.0 ∙ lies_outside held x (chunks_exact_rest c.next.new.self) (as_row c.unwrap-row.result) five row c.if-held-row.true)
+-- five numbers after five others are the rows
+by_fives : (held : Bytes) (k : ℕ) (ns : List ℕ) → k * row_width ≤ length ns → length ns < k * row_width + row_width
+    → list_all (λ x. inside held (row_from x 0)) (first_chunks row_width k ns) ≡ every (inside held) (rows_in ns)
+by_fives held zero ns room short = sym (ap (every (inside held)) (no_row_left ns (omega arith)))
+by_fives held (suc k) ns room short =
+    let x = take row_width ns in
+    let rest = drop row_width ns in
+    ap (λ t. inside held (row_from x 0) && t) (by_fives held k rest (omega (arith, length-drop row_width ns)) (omega (arith, length-drop row_width ns)))
+    ∙ sym (ap (every (inside held)) (ap rows_in (sym (take-append-drop row_width ns)) ∙ rows_cut x rest (omega (arith, length-take row_width ns))))
 
-pub loop-numbers-preserved : goal.loop-numbers-preserved
-loop-numbers-preserved c = let held = c.args.held.now in
-    let at = c.loop-numbers.invariant in
-    let cut = c.in-Some.ensures.steps in
-    let x = c.in-Some.numbers.now in
-    let five = cut.1.1 ∙ at.2 in
-    let row = row_here x c.row_at.result c.unwrap-row.result five c.row_at.ensures c.unwrap-row.ensures in (
-      search rules,
-      tt,
-      cut.0 ∙ at.2,
-      sym (ap (λ ns. every (inside held) (rows_in ns)) cut.1.0 ∙ lies_inside held x (chunks_exact_rest c.next.new.self) (as_row c.unwrap-row.result) five row c.if-held-row.false) ∙ at.3,
-    )
+pub returns : goal.returns
+unfolding inside
+returns c =
+    let held = c.args.held.now in
+    let ns = c.args.rows.now in
+    all_from_yields_List (λ x. inside held (row_from x 0)) _ _ c.all.result c.all.ensures.ran (YieldsList-from_slice (first_chunks row_width (length ns / row_width) ns) (c.iter.ensures.rest ∙ c.as_chunks.ensures.front)) (λ x b q k. search (rules, tests))
+    ∙ by_fives held (length ns / row_width) ns (omega arith) (omega arith)

@@ -1,13 +1,11 @@
-use Rattle.noted.proofs.Copying.{alone_last, alone_next}
+use Rattle.noted.specs.Noted.{rows_by}
+use Rattle.noted.proofs.Copying.{put_next, noted_here, all_fit, zeros_of, zeros_many, zero_at}
 use Rattle.noted.proofs.copy_alone.Goals as goal
 
 pub loop-i-preserved : goal.loop-i-preserved
-loop-i-preserved c = let args = c.args in
+loop-i-preserved c =
+    let notes = c.args.notes.now in
+    let rows = rows_by notes in
+    let old = c.args.table.now in
     let at = c.loop-i in
-    let put = c.copy_row in
-    alone_next args.notes.now args.rows args.table.now c.requires at.table at.i at.invariant c.loop-i-test.true put.new.table put.ensures
-
-pub returns : goal.returns
-returns c = let args = c.args in
-    let at = c.loop-i in
-    alone_last args.notes.now args.rows args.table.now c.requires at.table at.i at.invariant c.loop-i-test.false
+    put_next rows (zeros_of rows) old (zeros_many rows) (all_fit notes old c.requires) at.table at.i at.invariant _ _ (noted_here notes at.i c.loop-i-test.true) 0 (zero_at rows at.i) c.copy_row.new.table c.copy_row.ensures

@@ -1,33 +1,40 @@
-use Prim.Native.Nat.{ℕ, ◌+◌, ◌-◌}
-use mathlib.Core.Path.{◌≡◌, subst}
-use native.Mathlib.Omega.{arith}
-use Rattle.noted.proofs.Copying.{PutUpTo, several_first, several_last, several_small, several_next}
+use Rattle.std.proofs.Common.{◌+◌, ◌-◌, ◌*◌, ◌<◌, ◌∙◌, ap, ◌++◌, length, get_or, take, drop, arith, length-take, length-drop}
+use lib.ListN.{length-map}
+use Rattle.label.specs.Limits.{row_width}
+use Rattle.label.specs.Layout.{numbers}
+use Rattle.label.specs.Counting.{row_from, kinds_of, raised}
+use Rattle.label.proofs.Ordinals.{counted_small}
+use Rattle.noted.specs.Noted.{rows_by}
+use Rattle.noted.proofs.Copying.{put_next, put_last, noted_here, noted_later, all_fit, counted_of, kinds_many, counted_many, counted_on}
 use Rattle.noted.proofs.copy_several.Goals as goal
 
 pub raised_by-ordinal-requires : goal.raised_by-ordinal-requires
-raised_by-ordinal-requires c = let args = c.args in
-    let pre = c.requires.0 in
-    let few = c.requires.1 in
-    let put = c.copy_row in
-    let at = c.loop-i in
-    let first = several_first args.notes.now args.rows args.table.now pre (omega (arith, c.if-rows-eq0.false)) put.new.table put.ensures in
-    omega (arith, few, several_small args.notes.now args.rows args.table.now pre at.table at.ordinal (at.i - 1) (at.invariant args.table.now pre first) (omega (arith, at.auto.i, c.loop-i-test.true)))
+raised_by-ordinal-requires c =
+    let notes = c.args.notes.now in
+    let i = c.loop-i.i in
+    let inside : i < length notes = omega (arith, c.loop-i-test.true, length-take (length notes - 1) (drop 1 notes), length-drop 1 notes) in
+    omega (arith, c.requires.few, c.loop-i.invariant.own, inside, counted_small (kinds_of (rows_by notes)) i (omega (arith, kinds_many notes)))
 
 pub loop-i-preserved : goal.loop-i-preserved
-loop-i-preserved c = let args = c.args in
+loop-i-preserved c =
+    let notes = c.args.notes.now in
+    let old = c.args.table.now in
     let at = c.loop-i in
-    let by = c.raised_by-ordinal in
-    let put = c.copy_row-in-loop-i in
-    let one : at.i ≡ at.i - 1 + 1 = omega (arith, at.auto.i) in
-    let on : at.i - 1 + 1 ≡ at.i + 1 - 1 = omega (arith, at.auto.i) in
-    λ old copies first.
-    subst (λ (n : ℕ). PutUpTo args.notes.now old put.new.table by.result n) on
-    (several_next args.notes.now args.rows old copies at.table at.ordinal (at.i - 1) (at.invariant old copies first) (omega (arith, one, c.loop-i-test.true)) at.i one by.result by.ensures put.new.table put.ensures)
+    let o = c.raised_by-ordinal.result in
+    let inside : at.i + 1 < length notes = omega (arith, c.loop-i-test.true, length-take (length notes - 1) (drop 1 notes), length-drop 1 notes) in
+    let own = c.raised_by-ordinal.ensures ∙ ap (λ note. raised at.ordinal (get_or note 0 0)) (noted_later notes at.i) ∙ counted_on notes at.i inside at.ordinal at.invariant.own in
+    let new =
+    c.copy_row-in-loop-i.ensures
+    ∙ ap (λ note. take (row_width * (at.i + 1)) at.table ++ (numbers (row_from note 0) o ++ drop (row_width * (at.i + 1) + row_width) at.table)) (noted_later notes at.i) in
+    record {
+      own = own;
+      put = put_next (rows_by notes) (counted_of notes) old (counted_many notes) (all_fit notes old c.requires.roomy) at.table (at.i + 1) at.invariant.put _ _ (noted_here notes (at.i + 1) inside) o own c.copy_row-in-loop-i.new.table new;
+    }
 
 pub returns : goal.returns
-returns c = let args = c.args in
-    let pre = c.requires.0 in
-    let put = c.copy_row in
+returns c =
+    let notes = c.args.notes.now in
+    let old = c.args.table.now in
     let at = c.loop-i in
-    let first = several_first args.notes.now args.rows args.table.now pre (omega (arith, c.if-rows-eq0.false)) put.new.table put.ensures in
-    several_last args.notes.now args.rows args.table.now c.requires.0 at.table at.ordinal (at.i - 1) (at.invariant args.table.now pre first) (omega (arith, c.loop-i-test.false))
+    put_last (rows_by notes) (counted_of notes) old (counted_many notes) (all_fit notes old c.requires.roomy) at.table (at.i + 1) at.invariant.put
+    (omega (arith, c.loop-i-test.false, length-take (length notes - 1) (drop 1 notes), length-drop 1 notes, length-map notes (λ note. row_from note 0)))
