@@ -1,14 +1,15 @@
 -- `judge_envelope` shows what reading an envelope does: no indicator, or its format.
 use Rattle.std.specs.Prelude.{Err}
+use Prim.Native.Nat.{◌+◌}
 use mathlib.Core.Path.{sym, ap, ◌∙◌}
 use native.Mathlib.Omega.{arith}
-use lib.ListN.{drop, length-drop}
+use lib.ListN.{drop}
 use lib.Seq.{drop-drop}
-use Rattle.label.specs.Formats.{rule_of}
 use Rattle.label.specs.ReadEnvelope.{read_by}
 use Rattle.envelope.specs.Headers.{no_indicator, indicator_of}
 use Rattle.envelope.specs.Shown.{shown}
-use Rattle.envelope.proofs.HeaderLaws.{not_below, is_below, indicator_limit, indicator_long, read_none, read_some}
+use Rattle.envelope.proofs.HeaderLaws.{not_below, is_below, indicator_limit, indicator_inside, read_none, read_some}
+use Rattle.envelope.proofs.ShapeLaws.{shape_shown}
 use Rattle.envelope.proofs.judge_envelope.Goals as goal
 
 pub returns-in_default : goal.returns-in_default
@@ -20,11 +21,11 @@ returns-in_default c = let bs = drop c.args.at c.args.m.now in
 pub invariant_of-due : goal.invariant_of-due
 invariant_of-due c = let bs = drop c.args.at c.args.m.now in
     let there = is_below no_indicator (indicator_of bs) c.in-Some.f c.in-Some.ensures in
-    record { inside = omega (arith, indicator_long bs there.1, length-drop c.args.at c.args.m.now) }
+    record { inside = indicator_inside c.args.m.now c.args.at there.1 }
 
 pub returns : goal.returns
 returns c = let bs = drop c.args.at c.args.m.now in
     let f = c.in-Some.f in
     let there = is_below no_indicator (indicator_of bs) f c.in-Some.ensures in
-    c.judge_format.ensures
-    ∙ sym (ap (shown c.args.m.now) (read_some c.args.edition c.args.first f bs there.0 (omega (arith, there.0, there.1)) ∙ ap (read_by (rule_of c.args.edition f) c.args.first f) (drop-drop 2 c.args.at c.args.m.now)))
+    c.judge_shape.ensures
+    ∙ sym (ap (shown c.args.m.now) (read_some c.args.edition c.args.first f bs there.0 (omega (arith, there.0, there.1)) ∙ (λ i. read_by (sym c.shape_in.ensures i) c.args.first f (drop-drop 2 c.args.at c.args.m.now i))) ∙ shape_shown c.shape_in.result c.args.first f c.args.m.now (c.args.at + 2) (indicator_inside c.args.m.now c.args.at there.1))
