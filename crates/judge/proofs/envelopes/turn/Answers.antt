@@ -12,14 +12,14 @@ returns-in_err-n c = let passed = err_from_is_err_and c.from_residual.result c.f
     subst (TurnSo c.args.edition c.args.m.now c.args.s) (sym (passed.1 ∙ ap Err passed.2))
     (record { same = turn_refused c.args.edition c.args.m.now c.args.s c.requires c.in_err-n.field-0.0 (sym c.in_err-n.ensures); further = tt })
 
-pub overflow_add-result-in-Whole : goal.overflow_add-result-in-Whole
-overflow_add-result-in-Whole c = let few = c.requires.few_rows in
+pub with_envelope-requires-clause-its_rows : goal.with_envelope-requires-clause-its_rows
+with_envelope-requires-clause-its_rows c = let few = c.requires.few_rows in
     let inside = c.requires.inside in
     let most = (turn_whole c.args.edition c.args.m.now c.args.s c.requires c.in-Whole.n (sym c.in_ok-n.ensures ∙ ap Ok c.in-Whole.is)).0 in
     search rules
 
-pub overflow_add-rows : goal.overflow_add-rows
-overflow_add-rows c = let by = turn_closed c.args.edition c.args.m.now c.args.s c.requires c.in-Closed.next c.in-Closed.n (sym c.in_ok-n.ensures ∙ ap Ok c.in-Closed.is) in
+pub with_envelope-requires-in-Closed-clause-its_rows : goal.with_envelope-requires-in-Closed-clause-its_rows
+with_envelope-requires-in-Closed-clause-its_rows c = let by = turn_closed c.args.edition c.args.m.now c.args.s c.requires c.in-Closed.next c.in-Closed.n (sym c.in_ok-n.ensures ∙ ap Ok c.in-Closed.is) in
     let few = c.requires.few_rows in
     let further = by.further in
     let inside = by.inside in
@@ -29,8 +29,11 @@ pub boundary-requires : goal.boundary-requires
 boundary-requires c = (turn_closed c.args.edition c.args.m.now c.args.s c.requires c.in-Closed.next c.in-Closed.n (sym c.in_ok-n.ensures ∙ ap Ok c.in-Closed.is)).inside
 
 pub returns-in-Whole : goal.returns-in-Whole
-returns-in-Whole c = record { same = (turn_whole c.args.edition c.args.m.now c.args.s c.requires c.in-Whole.n (sym c.in_ok-n.ensures ∙ ap Ok c.in-Whole.is)).1; further = tt }
+returns-in-Whole c = record {
+  same = ap (λ counts. Ok counts) c.with_envelope.ensures ∙ (turn_whole c.args.edition c.args.m.now c.args.s c.requires c.in-Whole.n (sym c.in_ok-n.ensures ∙ ap Ok c.in-Whole.is)).1;
+  further = tt;
+}
 
 pub returns-in-Closed : goal.returns-in-Closed
-returns-in-Closed c = subst (TurnSo c.args.edition c.args.m.now c.args.s) (sym c.boundary.ensures)
+returns-in-Closed c = subst (TurnSo c.args.edition c.args.m.now c.args.s) (sym (rw c.with_envelope-in-Closed.ensures at c.boundary.ensures))
     (closed_so c.args.edition c.args.m.now c.args.s c.requires c.in-Closed.next c.in-Closed.n (turn_closed c.args.edition c.args.m.now c.args.s c.requires c.in-Closed.next c.in-Closed.n (sym c.in_ok-n.ensures ∙ ap Ok c.in-Closed.is)))
