@@ -14,9 +14,9 @@ use Rattle.label.specs.Values.{value}
 use Rattle.label.specs.declared.Edition.{Edition}
 use Rattle.label.specs.Formats.{rule_of}
 use Rattle.label.specs.ReadEnvelope.{refuse, must, read_by, read_envelope}
-use Rattle.label.proofs.Tests.{both, and_both, right_fails, cond_yes, cond_no}
+use Rattle.label.proofs.Tests.{both, and_both, cond_yes}
 use Rattle.leaves.specs.Classes.{digit_of}
-use Rattle.leaves.proofs.Turns.{drop_step}
+use Rattle.leaves.proofs.Turns.{drop_step, take_rest}
 use Rattle.envelope.specs.Headers.{if_below, no_indicator, indicator_of}
 
 -- a number if a test holds
@@ -56,10 +56,7 @@ indicator_made (a ∷ (b ∷ bs)) x y long ten unit =
     let is : value (a ∷ b ∷ []) ≡ x * 10 + y = omega (arith, tens.1, units.1) in
     sym (ap (if_below no_indicator) (cond_yes _ _ _ (and_both tens.0 units.0) ∙ is) ∙ cond_yes _ _ _ (lt-ltb (x * 10 + y) no_indicator (omega arith)))
 
-pub no_units : (bs : Bytes) → 2 ≤ length bs → None ≡ digit_of (get_or bs 1 0) → None ≡ if_below no_indicator (indicator_of bs)
-no_units [] long none = absurd (omega arith)
-no_units (a ∷ []) long none = absurd (omega arith)
-no_units (a ∷ (b ∷ bs)) long none = sym (ap (if_below no_indicator) (cond_no _ _ _ (right_fails (digit a) (none_if (digit b) (b - 0x30) none))))
+pub ruleset indicator_steps = (take_rest, indicator_made)
 
 -- two bytes and what follows
 pub drop_two : (m : Bytes) (at : ℕ) → at + 2 ≤ length m → drop at m ≡ get_or m at 0 ∷ (get_or m (at + 1) 0 ∷ drop (at + 2) m)

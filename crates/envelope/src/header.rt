@@ -11,6 +11,7 @@ use leaves::{Class, GS};
 use std::ops::RangeInclusive;
 
 // The number of the indicator at an offset.
+#[tactic(auto, using(crate::proofs::HeaderLaws::indicator_steps))]
 pub(crate) fn indicator(m: &[u8], at: usize) -> Option<usize>
     ensures { result ≡ if_below no_indicator (indicator_of (drop at m.now)) }
 {
