@@ -64,6 +64,7 @@ fn judge_shape(shape: Shape, due: Due, first: bool) -> Result<Found, Fault>
 }
 
 // What is found where an envelope is due: 3, then its format.
+#[tactic(auto, using(crate::proofs::ShapeLaws::envelope_steps))]
 pub fn judge_envelope(edition: Edition, m: &[u8], at: usize, first: bool) -> Result<Found, Fault>
     ensures { result ≡ shown m.now (read_envelope edition first (drop at m.now)) }
 {
