@@ -33,17 +33,11 @@ use Rattle.judge.proofs.RowBounds.{few_rows_lem}
 -- At a boundary
 
 module _ (m : Bytes) (at : ℕ) (counts : Counts) where
-  pub boundary_end : length m ≤ at → Err (record { reason = NoTrailer; place = at }) ≡ boundary_turn m at counts
-  boundary_end past = sym (cond_yes _ _ _ (le-leb (length m) at past))
-
   pub boundary_next : at < length m → eqb (get_or m at 0) EOT ≡ false → go (record { at = at; counts = counts }) ≡ boundary_turn m at counts
   boundary_next inside other = sym (cond_no _ _ _ (lt-leb (length m) at inside) ∙ cond_no _ _ _ other)
 
   pub boundary_last : at < length m → eqb (get_or m at 0) EOT ≡ true → length m ≤ at + 1 → done counts ≡ boundary_turn m at counts
   boundary_last inside is past = sym (cond_no _ _ _ (lt-leb (length m) at inside) ∙ cond_yes _ _ _ is ∙ cond_yes _ _ _ (le-leb (length m) (at + 1) past))
-
-  pub boundary_more : at < length m → eqb (get_or m at 0) EOT ≡ true → at + 1 < length m → Err (record { reason = BytesAfterTrailer; place = at + 1 }) ≡ boundary_turn m at counts
-  boundary_more inside is more = sym (cond_no _ _ _ (lt-leb (length m) at inside) ∙ cond_yes _ _ _ is ∙ cond_no _ _ _ (lt-leb (length m) (at + 1) more))
 
   trailer_law : (edition : Edition) (rest : Bytes) → length rest ≡ length m - (at + 1) → at < length m
       → result_after edition m (cond (leb (length m) (at + 1)) (done counts) (Err (record { reason = BytesAfterTrailer; place = at + 1 })))
@@ -192,3 +186,5 @@ module _ (edition : Edition) (m : Bytes) (s : State) (sound : Sound m s) where
 
   pub turn_refused : (r : Refusal) → placed s.at (shown m (read_envelope edition (first_due s) (drop s.at m))) ≡ Err r → Err r ≡ result_of edition m s
   turn_refused r found = refused_by (read_envelope edition (first_due s) (drop s.at m)) refl r found
+
+pub ruleset turn_steps = (turn_closed, turn_whole, turn_refused)

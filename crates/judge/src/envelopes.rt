@@ -59,6 +59,7 @@ fn with_envelope(counts: Counts, rows: usize) -> Counts
 }
 
 // One envelope, and what follows it.
+#[tactic(auto, using(crate::proofs::WalkLaws::turn_steps))]
 fn turn(edition: Edition, m: &[u8], s: State) -> Result<Turn, Refusal>
     requires { Sound m.now s }
     ensures { TurnSo edition m.now s result }

@@ -22,6 +22,7 @@ pub struct State {
 pub(crate) type Turn = ControlFlow<Counts, State>;
 
 // The reading of a message in an edition, whatever table is lent: 1, 2, then its envelopes, then 13, only when all envelopes stand.
+#[tactic(auto, using(crate::proofs::JudgeLaws::judge_steps))]
 pub fn judge(edition: Edition, m: &[u8]) -> Reading
     ensures { result ≡ judged_as (reading edition m.now) }
 {
