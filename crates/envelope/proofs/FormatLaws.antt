@@ -9,7 +9,6 @@ use borrow.Author.Tests.{le-leb, lt-leb, ltb-true, ltb-false, lt-ltb, le-ltb, eq
 use lib.ListN.{length, get_or, take, drop, take-append-drop, length-take, length-drop}
 use lib.Seq.{drop-drop, length-take-le}
 use lib.Dec.{leb, ltb, eqb, eqb-zero-suc, eqb-suc-suc}
-use Rattle.label.specs.declared.Edition.{Edition}
 use Rattle.label.specs.declared.Reason.{Reason}
 use Rattle.label.specs.declared.Reason.TheVariants.{BadFormatHeader, PayloadDoesNotFit, ByteNotPermitted, BodyBreaksRules, NoRecordSeparator}
 use Rattle.label.specs.Bytes.{Bytes, ascii, FS, GS, RS, US, plain, digit, capital_or_digit, every, is_empty}
@@ -20,17 +19,15 @@ use Rattle.label.specs.declared.Version.{Version}
 use Rattle.label.specs.declared.Version.TheVariants.{Version02, Version96}
 use Rattle.label.specs.Faults.{elements_fault, whole_fault, in_piece}
 use Rattle.label.specs.Segments.{tagged}
-use Rattle.label.specs.Formats.{rule_of, rest_byte, text_byte}
+use Rattle.label.specs.Formats.{rest_byte, text_byte}
 use Rattle.label.specs.Envelope.{Envelope, fields, whole_rest, segments, elements, text, counted}
 use Rattle.label.specs.Layout.{mark}
 use Rattle.label.specs.Written.{body_row, piece_row, parts, value_parts, rowed, value_row}
-use Rattle.label.specs.ReadEnvelope.{Step, closed, whole, refuse, must, opened, valued_at, valued, broken, body_at, bodied, plain_or_gs, segment_byte, version_of, read_fields, read_transport, read_rest, segments_in, are_segments, read_segments, read_elements, read_text, read_payload, read_values, read_count, read_counted, read_by}
+use Rattle.label.specs.ReadEnvelope.{Step, closed, whole, refuse, must, opened, valued_at, valued, broken, body_at, bodied, plain_or_gs, segment_byte, version_of, read_fields, read_transport, read_rest, segments_in, are_segments, read_segments, read_elements, read_text, read_payload, read_values, read_count, read_counted}
 use Rattle.label.specs.ReadMessage.{agreement}
 use Rattle.label.proofs.Tests.{both, and_both, cond_yes, cond_no}
 use Rattle.label.proofs.EnvelopeSound.{version_so}
 use Rattle.label.proofs.ReadingSound.{begins}
-use Rattle.formats.specs.declared.Shape.{Shape}
-use Rattle.formats.specs.Shapes.{rule_for}
 use Rattle.leaves.specs.Seek.{seek, tally_of}
 use Rattle.pieces.specs.declared.Kind.{Kind}
 use Rattle.pieces.specs.declared.Kind.TheVariants.{Fields, Text}
@@ -357,10 +354,3 @@ shown_counted f m at inside =
     (λ long.
     shown_valued 1 30 plain m (at + 1) long (λ t rest. read_values (compression_length ∷ []) rest λ vs. read_count f (t ∷ vs)) (compression_found m)
     (λ end is less. compression_step f m (end + 1) (take (end - (at + 1)) (drop (at + 1) m)) (omega arith)))
-
--- By the shape
-
--- what is found of a shape is what reading by the rule of a format with that shape shows
-pub found_by : (edition : Edition) (s : Shape) (first : Bool) (f : ℕ) (m : Bytes) (at : ℕ) (found : Judged) → rule_for s ≡ rule_of edition f
-    → shown m (read_by (rule_for s) first f (drop at m)) ≡ found → found ≡ shown m (read_by (rule_of edition f) first f (drop at m))
-found_by edition s first f m at found is shows = sym shows ∙ ap (λ rule. shown m (read_by rule first f (drop at m))) is

@@ -1,12 +1,12 @@
 -- An indicator's number by what its two bytes are worth, and what an envelope's reading makes of it.
 use Rattle.std.specs.Prelude.{Some, None}
-use Prim.Native.Nat.{ℕ, ◌+◌, ◌-◌, ◌≤◌, ◌<◌}
+use Prim.Native.Nat.{ℕ, ◌+◌, ◌-◌, ◌*◌, ◌≤◌, ◌<◌}
 use mathlib.Core.Path.{◌≡◌, refl, sym, ap, ◌∙◌}
 use mathlib.Core.Bool.{Bool, true, false, ◌&&◌, cond}
 use mathlib.Core.List.{[], ◌∷◌}
 use native.Mathlib.Omega.{arith}
-use borrow.Author.Tests.{leb-true, ltb-true, ltb-false}
-use lib.ListN.{length, get_or, drop}
+use borrow.Author.Tests.{leb-true, ltb-true, ltb-false, lt-ltb}
+use lib.ListN.{length, get_or, drop, length-drop}
 use lib.Dec.{leb, ltb}
 use Rattle.label.specs.declared.Reason.TheVariants.{NoIndicator}
 use Rattle.label.specs.Bytes.{Bytes, digit, between}
@@ -14,59 +14,30 @@ use Rattle.label.specs.Values.{value}
 use Rattle.label.specs.declared.Edition.{Edition}
 use Rattle.label.specs.Formats.{rule_of}
 use Rattle.label.specs.ReadEnvelope.{refuse, must, read_by, read_envelope}
-use Rattle.label.proofs.Tests.{both, right_fails}
-use Rattle.leaves.proofs.Turns.{drop_step}
-use Rattle.envelope.specs.Headers.{if_below, decimal_of, no_indicator, indicator_of}
+use Rattle.label.proofs.Tests.{both, and_both, cond_yes}
+use Rattle.leaves.specs.Classes.{digit_of}
+use Rattle.leaves.proofs.Turns.{drop_step, take_rest}
+use Rattle.envelope.specs.Headers.{if_below, no_indicator, indicator_of}
+
+-- a number if a test holds
+
+some_if : (t : Bool) (n x : ℕ) → Some x ≡ cond t (Some n) None → (t ≡ true) × (n ≡ x)
+some_if true n x is = let same : n ≡ x = cc in (refl, same)
+some_if false n x is = let z : ◌≡◌ {A = ℕ} 0 1 = cc in absurd (omega arith)
+
+none_if : (t : Bool) (n : ℕ) → None ≡ cond t (Some n) None → t ≡ false
+none_if true n is = let z : ◌≡◌ {A = ℕ} 0 1 = cc in absurd (omega arith)
+none_if false n is = refl
 
 -- a number below a limit, or none
 pub not_below : (limit n : ℕ) → None ≡ if_below limit n → limit ≤ n
-not_below limit n none = by (ltb n limit) refl none
-  where
-    by : (t : Bool) → ltb n limit ≡ t → None ≡ cond t (Some n) None → limit ≤ n
-    by true is none = let z : ◌≡◌ {A = ℕ} 0 1 = cc in absurd (omega arith)
-    by false is none = ltb-false n limit is
+not_below limit n none = ltb-false n limit (none_if (ltb n limit) n none)
 
 -- the number that is there is below the limit
 pub is_below : (limit n f : ℕ) → Some f ≡ if_below limit n → (n ≡ f) × (n < limit)
-is_below limit n f some = by (ltb n limit) refl some
-  where
-    by : (t : Bool) → ltb n limit ≡ t → Some f ≡ cond t (Some n) None → (n ≡ f) × (n < limit)
-    by true is some = let same : n ≡ f = cc in (same, ltb-true n limit is)
-    by false is some = let z : ◌≡◌ {A = ℕ} 0 1 = cc in absurd (omega arith)
+is_below limit n f some = let is = some_if (ltb n limit) n f some in (is.1, ltb-true n limit is.0)
 
--- two bytes and what follows
-
-pub drop_two : (m : Bytes) (at : ℕ) → at + 2 ≤ length m → drop at m ≡ get_or m at 0 ∷ (get_or m (at + 1) 0 ∷ drop (at + 2) m)
-drop_two m at h =
-    let two : at + 1 + 1 ≡ at + 2 = omega arith in
-    drop_step m at (omega arith)
-    ∙ ap (λ r. get_or m at 0 ∷ r) (drop_step m (at + 1) (omega arith) ∙ ap (λ n. get_or m (at + 1) 0 ∷ drop n m) two)
-
-digit_small : (x : ℕ) → digit x ≡ true → x - 0x30 ≤ 9
-unfolding digit between
-digit_small x d = let g = leb-true x 0x39 (both (leb 0x30 x) (leb x 0x39) d).right in omega arith
-
-module _ (m : Bytes) (at tens units : ℕ) (inside : at + 2 ≤ length m) (ten : tens ≡ decimal_of (get_or m at 0)) (unit : units ≡ decimal_of (get_or m (at + 1) 0)) where
-  a : ℕ
-  a = get_or m at 0
-
-  b : ℕ
-  b = get_or m (at + 1) 0
-
-  by_digits : (s t : Bool) → digit a ≡ s → digit b ≡ t → cond (s && t) (value (a ∷ b ∷ [])) no_indicator ≡ indicator_of (drop at m)
-  unfolding a b
-  by_digits s t p q = sym (ap indicator_of (drop_two m at inside) ∙ (λ i. cond (p i && q i) (value (a ∷ b ∷ [])) no_indicator))
-
-  none_by : (s : Bool) (x y : ℕ) → digit x ≡ s → y ≡ cond s (x - 0x30) 10 → 9 < y → digit x ≡ false
-  none_by true x y d is h = let small = digit_small x d in absurd (omega arith)
-  none_by false x y d is h = d
-
-  pub indicator_units : 9 < units → no_indicator ≡ indicator_of (drop at m)
-  unfolding a b
-  indicator_units over =
-      sym (ap (λ t. cond t (value (a ∷ b ∷ [])) no_indicator) (right_fails (digit a) refl)) ∙ by_digits (digit a) false refl (none_by (digit b) b units refl unit over)
-
--- the reading of an envelope, by its indicator's number
+-- the number that two digits make
 
 value_small : (a b : ℕ) → digit a ≡ true → digit b ≡ true → value (a ∷ b ∷ []) < 100
 unfolding digit between
@@ -74,6 +45,27 @@ value_small a b p q =
     let g = leb-true a 0x39 (both (leb 0x30 a) (leb a 0x39) p).right in
     let h = leb-true b 0x39 (both (leb 0x30 b) (leb b 0x39) q).right in
     omega arith
+
+pub indicator_made : (bs : Bytes) (x y : ℕ) → 2 ≤ length bs → Some x ≡ digit_of (get_or bs 0 0) → Some y ≡ digit_of (get_or bs 1 0) → Some (x * 10 + y) ≡ if_below no_indicator (indicator_of bs)
+indicator_made [] x y long ten unit = absurd (omega arith)
+indicator_made (a ∷ []) x y long ten unit = absurd (omega arith)
+indicator_made (a ∷ (b ∷ bs)) x y long ten unit =
+    let tens = some_if (digit a) (a - 0x30) x ten in
+    let units = some_if (digit b) (b - 0x30) y unit in
+    let small = value_small a b tens.0 units.0 in
+    let is : value (a ∷ b ∷ []) ≡ x * 10 + y = omega (arith, tens.1, units.1) in
+    sym (ap (if_below no_indicator) (cond_yes _ _ _ (and_both tens.0 units.0) ∙ is) ∙ cond_yes _ _ _ (lt-ltb (x * 10 + y) no_indicator (omega arith)))
+
+pub ruleset indicator_steps = (take_rest, indicator_made)
+
+-- two bytes and what follows
+pub drop_two : (m : Bytes) (at : ℕ) → at + 2 ≤ length m → drop at m ≡ get_or m at 0 ∷ (get_or m (at + 1) 0 ∷ drop (at + 2) m)
+drop_two m at h =
+    let two : at + 1 + 1 ≡ at + 2 = omega arith in
+    drop_step m at (omega arith)
+    ∙ ap (λ r. get_or m at 0 ∷ r) (drop_step m (at + 1) (omega arith) ∙ ap (λ n. get_or m (at + 1) 0 ∷ drop n m) two)
+
+-- the reading of an envelope, by its indicator's number
 
 pub read_none : (edition : Edition) (first : Bool) (bs : Bytes) → indicator_of bs ≡ no_indicator → read_envelope edition first bs ≡ refuse NoIndicator
 unfolding read_envelope
@@ -107,7 +99,10 @@ indicator_limit (a ∷ (b ∷ bs)) = by (digit a) (digit b) refl refl
     by true false p q = omega arith
     by false t p q = omega arith
 
-pub indicator_long : (bs : Bytes) → indicator_of bs < no_indicator → 2 ≤ length bs
-indicator_long [] h = absurd (omega arith)
-indicator_long (a ∷ []) h = absurd (omega arith)
-indicator_long (a ∷ (b ∷ bs)) h = omega arith
+pub indicator_inside : (m : Bytes) (at : ℕ) → indicator_of (drop at m) < no_indicator → at + 2 ≤ length m
+indicator_inside m at there = by (drop at m) refl there
+  where
+    by : (bs : Bytes) → drop at m ≡ bs → indicator_of bs < no_indicator → at + 2 ≤ length m
+    by [] is there = absurd (omega arith)
+    by (a ∷ []) is there = absurd (omega arith)
+    by (a ∷ (b ∷ bs)) is there = omega (arith, ap length is, length-drop at m)

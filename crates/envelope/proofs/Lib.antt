@@ -4,4 +4,5 @@ pub mod ValueLaws
 pub mod FormatTests
 pub mod RowCounts
 pub mod FormatLaws
+pub mod ShapeLaws
 pub mod OneOutcome

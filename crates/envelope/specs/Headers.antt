@@ -1,5 +1,5 @@
 -- The number that an indicator makes, and where a header value ends.
-use Rattle.std.specs.Prelude.{Option, Some, None, Result, Ok, Err, ℕ, ◌+◌, ◌-◌, Bool, ◌&&◌, cond, [], ◌∷◌, length, take, drop, leb, ltb}
+use Rattle.std.specs.Prelude.{Option, Some, None, Result, Ok, Err, ℕ, ◌+◌, Bool, ◌&&◌, cond, [], ◌∷◌, length, take, drop, leb, ltb}
 use Rattle.label.specs.declared.Reason.{Reason}
 use Rattle.label.specs.declared.Reason.TheVariants.{BadFormatHeader}
 use Rattle.label.specs.Bytes.{Bytes, GS, digit, every}
@@ -9,10 +9,6 @@ use Rattle.leaves.specs.Seek.{seek}
 -- a number, or that there is none where it isn't below a limit
 abbrev pub if_below : ℕ → ℕ → Option ℕ
 if_below limit n = cond (ltb n limit) (Some n) None
-
--- what a digit is worth; 10 for a byte that is none
-abbrev pub decimal_of : ℕ → ℕ
-decimal_of b = cond (digit b) (b - 0x30) 10
 
 -- no indicator's number
 abbrev pub no_indicator : ℕ

@@ -3,3 +3,4 @@ pub mod Shown
 pub mod Headers
 pub mod Bodies
 pub mod Formats
+pub mod Shapes

@@ -1,12 +1,10 @@
 -- What is kept of an envelope that is read: where the next begins and how many rows it has, or why there is none.
-use Rattle.std.specs.Prelude.{Result, Ok, Err, unwrap_or, ℕ, ◌-◌, length}
+use Rattle.std.specs.Prelude.{ℕ, ◌-◌, length}
 use Rattle.label.specs.Bytes.{Bytes}
 use Rattle.label.specs.Layout.{items_of}
 use Rattle.label.specs.Envelope.{Envelope}
 use Rattle.label.specs.Written.{parts}
 use Rattle.label.specs.ReadEnvelope.{Step, closed, whole, refuse, refuse_at}
-use Rattle.label.specs.declared.Refusal.{Refusal}
-use Rattle.envelope.specs.declared.Found.{Found}
 use Rattle.envelope.specs.Judged.{Judged, closed_at, whole_of, no_envelope, no_envelope_at}
 
 -- how many rows an envelope has
@@ -19,8 +17,3 @@ shown m (closed e left) = closed_at (length m - length left) (row_count e)
 shown m (whole e) = whole_of (row_count e)
 shown m (refuse reason) = no_envelope reason
 shown m (refuse_at reason from) = no_envelope_at reason (length m - length from)
-
--- the same with the place of each refusal: an envelope is due at an offset
-abbrev pub placed : ℕ → Judged → Result Found Refusal
-placed at (Ok found) = Ok found
-placed at (Err fault) = Err (record { reason = fault.reason; place = unwrap_or fault.place at })

@@ -10,6 +10,7 @@ use leaves::RS;
 use pieces::Kind;
 
 // A body that breaks its rules and stands at an offset: refused where a piece of it is at fault, or as a whole.
+#[tactic(auto, using(crate::proofs::BodyLaws::fault_fits))]
 fn judge_fault(at: usize, body: &[u8], k: Kind) -> Result<Found, Fault>
     requires { at + length body.now < 2 ^ 64 }
     ensures { result ≡ fault_found at (fault_of k body.now) }
@@ -24,6 +25,7 @@ fn judge_fault(at: usize, body: &[u8], k: Kind) -> Result<Found, Fault>
 }
 
 // The body of a kind, behind rows that the header has.
+#[tactic(auto, using(crate::proofs::BodyLaws::rows_of_part), unfolding(crate::specs::Bodies::body_found))]
 pub(crate) fn judge_body(due: Due, k: Kind, before: usize) -> Result<Found, Fault>
     requires { before ≤ 2 }
     ensures { result ≡ body_found k before due.entry.message.now due.entry.at }

@@ -27,6 +27,7 @@ impl<'a> Due<'a> {
     }
 
     // Whether a text stands there.
+    #[tactic(auto, using(crate::proofs::ValueLaws::begins_text))]
     pub(crate) fn begins(self, text: &[u8]) -> bool
         ensures tells { result ≡ begins_at text.now self.entry.message.now self.entry.at }
         ensures fits { IsTrue result → self.entry.at + length text.now ≤ length self.entry.message.now }

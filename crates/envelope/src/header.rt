@@ -3,32 +3,22 @@ ghost use Rattle.std.specs.Prelude.{◌≡◌, ◌≤◌, length, drop, false};
 ghost use Rattle.std.specs.Range.{range_inclusive_start, range_inclusive_end, range_inclusive_exhausted};
 ghost use Rattle.label.specs.Values.{value, count_length};
 ghost use Rattle.leaves.specs.Classes.{class_of};
-ghost use Rattle.envelope.specs.Headers.{if_below, decimal_of, no_indicator, indicator_of, value_end, value_found};
+ghost use Rattle.envelope.specs.Headers.{if_below, no_indicator, indicator_of, value_end, value_found};
 
 use crate::due::Due;
 use label::Reason;
 use leaves::{Class, GS};
 use std::ops::RangeInclusive;
 
-// What a digit is worth.
-#[tactic(auto, unfolding(label::specs::Bytes::digit, label::specs::Bytes::between))]
-fn decimal(b: u8) -> Option<usize>
-    ensures { result ≡ if_below 10 (decimal_of b) }
-{
-    match b {
-        b'0'..=b'9' => Some(usize::from(b - b'0')),
-        _ => None,
-    }
-}
-
 // The number of the indicator at an offset.
+#[tactic(auto, using(crate::proofs::HeaderLaws::indicator_steps))]
 pub(crate) fn indicator(m: &[u8], at: usize) -> Option<usize>
     ensures { result ≡ if_below no_indicator (indicator_of (drop at m.now)) }
 {
     let [tens, units, ..] = m.get(at..)? else {
         return None;
     };
-    Some(decimal(*tens)? * 10 + decimal(*units)?)
+    Some(usize::from(leaves::digit(*tens)?) * 10 + usize::from(leaves::digit(*units)?))
 }
 
 // Where a header value of 09 or 15 ends that begins at a place, given how long it may be and of which bytes: at the next GS; else 8.

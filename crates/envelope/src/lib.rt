@@ -7,8 +7,8 @@ mod format;
 mod header;
 
 ghost use Rattle.std.specs.Prelude.{◌≡◌, ◌≤◌, length, drop, None};
-ghost use Rattle.label.specs.Formats.{rule_of};
-ghost use Rattle.label.specs.ReadEnvelope.{read_by, read_envelope};
+ghost use Rattle.label.specs.ReadEnvelope.{read_envelope};
+ghost use Rattle.envelope.specs.Shapes.{shape_found};
 ghost use Rattle.envelope.specs.Shown.{shown};
 
 use due::Due;
@@ -43,22 +43,14 @@ impl From<Reason> for Fault {
     }
 }
 
-// The format with a number in an edition, behind its indicator: 6, then 7, then its header and body.
-fn judge_format(edition: Edition, due: Due, f: usize, first: bool) -> Result<Found, Fault>
-    ensures { result ≡ shown due.entry.message.now (read_by (rule_of edition f) first f (drop due.entry.at due.entry.message.now)) }
+// An envelope of a shape behind its indicator: 6, then 7, then its header and body.
+fn judge_shape(shape: Shape, due: Due, first: bool) -> Result<Found, Fault>
+    ensures { result ≡ shape_found shape first due.entry.message.now due.entry.at }
 {
-    let shape = shape_in(edition, f);
     match shape {
-        Shape::Fields => if first {
-            format::judge_transport(due)
-        } else {
-            Err(Reason::NotFirst.into())
-        },
-        Shape::Rest => if first {
-            format::judge_rest(due)
-        } else {
-            Err(Reason::NotFirst.into())
-        },
+        Shape::Fields | Shape::Rest if !first => Err(Reason::NotFirst.into()),
+        Shape::Fields => format::judge_transport(due),
+        Shape::Rest => format::judge_rest(due),
         Shape::Segments03 => format::judge_segments(due, Kind::Segments03),
         Shape::Segments04 => format::judge_segments(due, Kind::Segments04),
         Shape::Elements05 => format::judge_elements(due, Kind::Elements05),
@@ -72,6 +64,7 @@ fn judge_format(edition: Edition, due: Due, f: usize, first: bool) -> Result<Fou
 }
 
 // What is found where an envelope is due: 3, then its format.
+#[tactic(auto, using(crate::proofs::ShapeLaws::envelope_steps))]
 pub fn judge_envelope(edition: Edition, m: &[u8], at: usize, first: bool) -> Result<Found, Fault>
     ensures { result ≡ shown m.now (read_envelope edition first (drop at m.now)) }
 {
@@ -82,5 +75,5 @@ pub fn judge_envelope(edition: Edition, m: &[u8], at: usize, first: bool) -> Res
         message: m,
         at: at + 2,
     };
-    judge_format(edition, due, f, first)
+    judge_shape(shape_in(edition, f), due, first)
 }

@@ -9,6 +9,8 @@ use borrow.Author.Tests.{leb-true, lt-ltb, le-ltb}
 use lib.ListN.{length, drop, length-drop}
 use lib.Dec.{leb, ltb}
 use Rattle.label.specs.declared.Reason.TheVariants.{TooLong, NoMessageHeader, TooManyRows}
+use Rattle.label.specs.declared.Counts.{Counts}
+use Rattle.label.specs.declared.Refusal.{Refusal}
 use Rattle.label.specs.declared.Edition.{Edition}
 use Rattle.label.specs.Bytes.{Bytes, RS}
 use Rattle.label.specs.Limits.{longest, most_rows}
@@ -79,8 +81,22 @@ judge_walk edition m short agrees long =
     ∙ sym (ap judged_as (cond_no _ _ _ (le-ltb longest (length m) short) ∙ cond_no _ _ _ (le-ltb (agreement header m) 4 agrees)))
 
 -- the same of what the walk answers, behind a header that is there
-pub judge_comes : (edition : Edition) (m : Bytes) → length m ≤ longest → leb (length header) (agreement header m) ≡ true → (walked : Reading) → walked ≡ tallied 0 0 (unbounded_walk edition m true (drop (length header) m)) → limited walked ≡ judged_as (reading edition m)
-judge_comes edition m short headed walked is =
+
+judge_comes : (edition : Edition) (m : Bytes) (walked : Reading) → length m ≤ longest → leb (length header) (agreement header m) ≡ true → walked ≡ tallied 0 0 (unbounded_walk edition m true (drop (length header) m)) → limited walked ≡ judged_as (reading edition m)
+judge_comes edition m walked short headed is =
     let agrees = leb-true (length header) (agreement header m) headed in
     let inside = agreement_inside header m in
     ap limited is ∙ judge_walk edition m short (omega arith) (omega arith)
+
+pub judge_refused : (edition : Edition) (m : Bytes) (r : Refusal) → length m ≤ longest → leb (length header) (agreement header m) ≡ true → Err r ≡ tallied 0 0 (unbounded_walk edition m true (drop (length header) m)) → Err r ≡ judged_as (reading edition m)
+judge_refused edition m r short headed is = judge_comes edition m (Err r) short headed is
+
+pub judge_many : (edition : Edition) (m : Bytes) (counts : Counts) → length m ≤ longest → leb (length header) (agreement header m) ≡ true → Ok counts ≡ tallied 0 0 (unbounded_walk edition m true (drop (length header) m)) → most_rows < counts.rows
+    → Err (record { reason = TooManyRows; place = 0 }) ≡ judged_as (reading edition m)
+judge_many edition m counts short headed is many = sym (cond_yes _ _ _ (lt-ltb most_rows counts.rows many)) ∙ judge_comes edition m (Ok counts) short headed is
+
+pub judge_few : (edition : Edition) (m : Bytes) (counts : Counts) → length m ≤ longest → leb (length header) (agreement header m) ≡ true → Ok counts ≡ tallied 0 0 (unbounded_walk edition m true (drop (length header) m)) → counts.rows ≤ most_rows
+    → Ok counts ≡ judged_as (reading edition m)
+judge_few edition m counts short headed is few = sym (cond_no _ _ _ (le-ltb most_rows counts.rows few)) ∙ judge_comes edition m (Ok counts) short headed is
+
+pub ruleset judge_steps = (judge_long, judge_header, judge_refused, judge_many, judge_few)

@@ -1,11 +1,10 @@
--- How many rows are read in a message that is judged: as many as were counted, and none in a refused one.
-use Rattle.std.specs.Prelude.{Err, Ok}
+-- How many rows are read in a message that is judged: as many as were counted.
+use Rattle.std.specs.Prelude.{Ok}
 use Prim.Native.Nat.{ℕ}
-use mathlib.Core.Path.{◌≡◌, refl, sym, ap}
+use mathlib.Core.Path.{◌≡◌, sym, ap}
 use native.Mathlib.Omega.{arith}
 use lib.ListN.{length}
 use Rattle.label.specs.declared.Counts.{Counts}
-use Rattle.label.specs.declared.Refusal.{Refusal}
 use Rattle.label.specs.declared.Edition.{Edition}
 use Rattle.label.specs.Bytes.{Bytes}
 use Rattle.label.specs.Message.{rows_of}
@@ -17,12 +16,5 @@ rows_by : (o : Outcome) (counts : Counts) → judged_as o ≡ Ok counts → coun
 rows_by (read es) counts says = let is : record { envelopes = length es; rows = length (rows_of es) } ≡ counts = cc in sym (ap (λ (c : Counts). c.rows) is)
 rows_by (refused r p) counts says = let z : ◌≡◌ {A = ℕ} 0 1 = cc in absurd (omega arith)
 
-none_by : (o : Outcome) (r : Refusal) → judged_as o ≡ Err r → 0 ≡ length (rows_read o)
-none_by (read es) r says = let z : ◌≡◌ {A = ℕ} 0 1 = cc in absurd (omega arith)
-none_by (refused reason place) r says = refl
-
 pub rows_judged : (edition : Edition) (m : Bytes) (counts : Counts) → judged_as (reading edition m) ≡ Ok counts → counts.rows ≡ length (rows_read (reading edition m))
 rows_judged edition m counts says = rows_by (reading edition m) counts says
-
-pub none_judged : (edition : Edition) (m : Bytes) (r : Refusal) → judged_as (reading edition m) ≡ Err r → 0 ≡ length (rows_read (reading edition m))
-none_judged edition m r says = none_by (reading edition m) r says

@@ -5,10 +5,11 @@ use mathlib.Core.Path.{◌≡◌, refl, sym, ap, ◌∙◌}
 use mathlib.Core.Bool.{Bool, true, false, cond}
 use mathlib.Core.List.{[], ◌∷◌, ◌++◌}
 use native.Mathlib.Omega.{arith}
-use borrow.Author.Tests.{leb-true, leb-false, le-leb, lt-leb}
+use borrow.Author.Tests.{ne_eqb, leb-true, leb-false, le-leb, lt-leb}
 use lib.ListN.{length, get_or, drop, length-append, length-drop}
 use lib.Seq.{drop-drop, drop-append-add}
 use lib.Dec.{leb, eqb}
+use Rattle.label.specs.declared.Counts.{Counts}
 use Rattle.label.specs.declared.Refusal.{Refusal}
 use Rattle.label.specs.declared.Reason.TheVariants.{NoTrailer, BytesAfterTrailer}
 use Rattle.label.specs.declared.Edition.{Edition}
@@ -23,31 +24,25 @@ use Rattle.label.proofs.Walk.{one_step_then_walk}
 use Rattle.label.proofs.Tests.{cond_yes, cond_no}
 use Rattle.leaves.proofs.Turns.{drop_step, drop_past}
 use Rattle.envelope.specs.declared.Found.TheVariants.{Closed, Whole}
-use Rattle.envelope.specs.Shown.{row_count, shown, placed}
+use Rattle.envelope.specs.Shown.{row_count, shown}
 use Rattle.judge.specs.declared.State.{State}
-use Rattle.judge.specs.Shown.{total_rows, tallied}
-use Rattle.judge.specs.Turns.{done, go, result_of, result_after, Sound, Further, TurnSo, boundary_turn}
+use Rattle.judge.specs.Shown.{placed, total_rows, tallied}
+use Rattle.judge.specs.Turns.{first_due, done, go, result_of, with_envelope, result_after, Sound, Further, TurnSo, boundary_turn}
 use Rattle.judge.proofs.RowBounds.{few_rows_lem}
 
 -- At a boundary
 
-module _ (m : Bytes) (at envelopes rows : ℕ) where
-  pub boundary_end : length m ≤ at → Err (record { reason = NoTrailer; place = at }) ≡ boundary_turn m at envelopes rows
-  boundary_end past = sym (cond_yes _ _ _ (le-leb (length m) at past))
-
-  pub boundary_next : at < length m → eqb (get_or m at 0) EOT ≡ false → go (record { at = at; first = false; envelopes = envelopes; rows = rows }) ≡ boundary_turn m at envelopes rows
+module _ (m : Bytes) (at : ℕ) (counts : Counts) where
+  pub boundary_next : at < length m → eqb (get_or m at 0) EOT ≡ false → go (record { at = at; counts = counts }) ≡ boundary_turn m at counts
   boundary_next inside other = sym (cond_no _ _ _ (lt-leb (length m) at inside) ∙ cond_no _ _ _ other)
 
-  pub boundary_last : at < length m → eqb (get_or m at 0) EOT ≡ true → length m ≤ at + 1 → done (record { envelopes = envelopes; rows = rows }) ≡ boundary_turn m at envelopes rows
+  pub boundary_last : at < length m → eqb (get_or m at 0) EOT ≡ true → length m ≤ at + 1 → done counts ≡ boundary_turn m at counts
   boundary_last inside is past = sym (cond_no _ _ _ (lt-leb (length m) at inside) ∙ cond_yes _ _ _ is ∙ cond_yes _ _ _ (le-leb (length m) (at + 1) past))
 
-  pub boundary_more : at < length m → eqb (get_or m at 0) EOT ≡ true → at + 1 < length m → Err (record { reason = BytesAfterTrailer; place = at + 1 }) ≡ boundary_turn m at envelopes rows
-  boundary_more inside is more = sym (cond_no _ _ _ (lt-leb (length m) at inside) ∙ cond_yes _ _ _ is ∙ cond_no _ _ _ (lt-leb (length m) (at + 1) more))
-
   trailer_law : (edition : Edition) (rest : Bytes) → length rest ≡ length m - (at + 1) → at < length m
-      → result_after edition m (cond (leb (length m) (at + 1)) (done (record { envelopes = envelopes; rows = rows })) (Err (record { reason = BytesAfterTrailer; place = at + 1 })))
-      ≡ tallied envelopes rows (after_trailer m rest)
-  trailer_law edition [] long inside = ap (result_after edition m) (cond_yes _ _ _ (le-leb (length m) (at + 1) (omega arith))) ∙ (λ i. Ok (record { envelopes = none_more envelopes i; rows = none_more rows i }))
+      → result_after edition m (cond (leb (length m) (at + 1)) (done counts) (Err (record { reason = BytesAfterTrailer; place = at + 1 })))
+      ≡ tallied counts.envelopes counts.rows (after_trailer m rest)
+  trailer_law edition [] long inside = ap (result_after edition m) (cond_yes _ _ _ (le-leb (length m) (at + 1) (omega arith))) ∙ (λ i. Ok (record { envelopes = none_more counts.envelopes i; rows = none_more counts.rows i }))
     where
       none_more : (n : ℕ) → n ≡ n + 0
       none_more n = omega arith
@@ -58,38 +53,38 @@ module _ (m : Bytes) (at envelopes rows : ℕ) where
       place = omega arith
 
   -- what a boundary comes to
-  pub boundary_law : (edition : Edition) → at ≤ length m → result_after edition m (boundary_turn m at envelopes rows) ≡ tallied envelopes rows (at_boundary m (unbounded_walk edition m false) (drop at m))
-  boundary_law edition inside = by_end (leb (length m) at) refl
+  pub boundary_law : (edition : Edition) → at ≤ length m → eqb counts.envelopes 0 ≡ false → result_after edition m (boundary_turn m at counts) ≡ tallied counts.envelopes counts.rows (at_boundary m (unbounded_walk edition m false) (drop at m))
+  boundary_law edition inside some = by_end (leb (length m) at) refl
     where
       rest : Bytes
       rest = drop (at + 1) m
 
       by_byte : at < length m → (t : Bool) → eqb (get_or m at 0) EOT ≡ t
-          → result_after edition m (cond t (cond (leb (length m) (at + 1)) (done (record { envelopes = envelopes; rows = rows })) (Err (record { reason = BytesAfterTrailer; place = at + 1 })))
-          (go (record { at = at; first = false; envelopes = envelopes; rows = rows })))
-          ≡ tallied envelopes rows (elim t [ true ↦ after_trailer m rest | false ↦ unbounded_walk edition m false (get_or m at 0 ∷ rest) ])
+          → result_after edition m (cond t (cond (leb (length m) (at + 1)) (done counts) (Err (record { reason = BytesAfterTrailer; place = at + 1 })))
+          (go (record { at = at; counts = counts })))
+          ≡ tallied counts.envelopes counts.rows (elim t [ true ↦ after_trailer m rest | false ↦ unbounded_walk edition m false (get_or m at 0 ∷ rest) ])
       by_byte less true is = trailer_law edition rest (length-drop (at + 1) m) less
-      by_byte less false is = ap (λ l. tallied envelopes rows (unbounded_walk edition m false l)) (drop_step m at less)
+      by_byte less false is = λ i. tallied counts.envelopes counts.rows (unbounded_walk edition m (some i) (drop_step m at less i))
 
       by_end : (t : Bool) → leb (length m) at ≡ t
           → result_after edition m (cond t (Err (record { reason = NoTrailer; place = at }))
-          (cond (eqb (get_or m at 0) EOT) (cond (leb (length m) (at + 1)) (done (record { envelopes = envelopes; rows = rows })) (Err (record { reason = BytesAfterTrailer; place = at + 1 })))
-          (go (record { at = at; first = false; envelopes = envelopes; rows = rows }))))
-          ≡ tallied envelopes rows (at_boundary m (unbounded_walk edition m false) (drop at m))
+          (cond (eqb (get_or m at 0) EOT) (cond (leb (length m) (at + 1)) (done counts) (Err (record { reason = BytesAfterTrailer; place = at + 1 })))
+          (go (record { at = at; counts = counts }))))
+          ≡ tallied counts.envelopes counts.rows (at_boundary m (unbounded_walk edition m false) (drop at m))
       by_end true past =
           let over = leb-true (length m) at past in
           let here : at ≡ length m = omega arith in
-          ap (λ p. Err (record { reason = NoTrailer; place = p })) here ∙ sym (ap (λ l. tallied envelopes rows (at_boundary m (unbounded_walk edition m false) l)) (drop_past m at over))
+          ap (λ p. Err (record { reason = NoTrailer; place = p })) here ∙ sym (ap (λ l. tallied counts.envelopes counts.rows (at_boundary m (unbounded_walk edition m false) l)) (drop_past m at over))
       by_end false inside =
           let less = leb-false (length m) at inside in
-          by_byte less (eqb (get_or m at 0) EOT) refl ∙ sym (ap (λ l. tallied envelopes rows (at_boundary m (unbounded_walk edition m false) l)) (drop_step m at less))
+          by_byte less (eqb (get_or m at 0) EOT) refl ∙ sym (ap (λ l. tallied counts.envelopes counts.rows (at_boundary m (unbounded_walk edition m false) l)) (drop_step m at less))
 
-  boundary_further : at ≤ length m → envelopes ≤ at → rows ≤ at → (from : ℕ) → from < at → Further m from (boundary_turn m at envelopes rows)
+  boundary_further : at ≤ length m → counts.envelopes ≤ at → counts.rows ≤ at → (from : ℕ) → from < at → Further m from (boundary_turn m at counts)
   boundary_further inside few_e few_r from less = by (leb (length m) at) (eqb (get_or m at 0) EOT) (leb (length m) (at + 1))
     where
       by : (s t u : Bool) → Further m from (cond s (Err (record { reason = NoTrailer; place = at }))
-          (cond t (cond u (done (record { envelopes = envelopes; rows = rows })) (Err (record { reason = BytesAfterTrailer; place = at + 1 })))
-          (go (record { at = at; first = false; envelopes = envelopes; rows = rows }))))
+          (cond t (cond u (done counts) (Err (record { reason = BytesAfterTrailer; place = at + 1 })))
+          (go (record { at = at; counts = counts }))))
       by true t u = tt
       by false true true = tt
       by false true false = tt
@@ -119,17 +114,17 @@ left_at m at e left inside is =
     ap (λ n. drop n m) long ∙ sym (drop-drop k at m) ∙ ap (drop k) is ∙ drop-append-add (bytes_of (parts e)) (RS ∷ left) 1
 
 module _ (edition : Edition) (m : Bytes) (s : State) (sound : Sound m s) where
-  result_by : (step : Step) → read_envelope edition s.first (drop s.at m) ≡ step
-      → result_of edition m s ≡ tallied s.envelopes s.rows (follow m (unbounded_walk edition m false) (drop s.at m) step)
-  result_by step is = ap (tallied s.envelopes s.rows) (one_step_then_walk edition m s.first (drop s.at m) ∙ ap (follow m (unbounded_walk edition m false) (drop s.at m)) is)
+  result_by : (step : Step) → read_envelope edition (first_due s) (drop s.at m) ≡ step
+      → result_of edition m s ≡ tallied s.counts.envelopes s.counts.rows (follow m (unbounded_walk edition m false) (drop s.at m) step)
+  result_by step is = ap (tallied s.counts.envelopes s.counts.rows) (one_step_then_walk edition m (first_due s) (drop s.at m) ∙ ap (follow m (unbounded_walk edition m false) (drop s.at m)) is)
 
   -- where an envelope is closed, how far it reaches and how many rows it has
   pub record ClosedBy (next rows : ℕ) : Type 0 where
     pub inside : next ≤ length m
     pub further : s.at + rows < next
-    pub same : result_after edition m (boundary_turn m next (s.envelopes + 1) (s.rows + rows)) ≡ result_of edition m s
+    pub same : result_after edition m (boundary_turn m next (with_envelope s.counts rows)) ≡ result_of edition m s
 
-  closed_by : (step : Step) → read_envelope edition s.first (drop s.at m) ≡ step → StepSo edition s.first (drop s.at m) step → (next rows : ℕ) → placed s.at (shown m step) ≡ Ok (Closed next rows) → ClosedBy next rows
+  closed_by : (step : Step) → read_envelope edition (first_due s) (drop s.at m) ≡ step → StepSo edition (first_due s) (drop s.at m) step → (next rows : ℕ) → placed s.at (shown m step) ≡ Ok (Closed next rows) → ClosedBy next rows
   closed_by (closed e left) is so next rows found =
       let ends : length m - length left ≡ next = cc in
       let its : row_count e ≡ rows = cc in
@@ -143,43 +138,43 @@ module _ (edition : Edition) (m : Bytes) (s : State) (sound : Sound m s) where
         inside = inside;
         further = omega arith;
         same =
-            boundary_law m next (s.envelopes + 1) (s.rows + rows) edition inside
-            ∙ (λ i. tallied (s.envelopes + 1) (s.rows + sym its i) (at_boundary m (unbounded_walk edition m false) ((ap (λ n. drop n m) (sym ends) ∙ left_at m s.at e left within so.bytes) i)))
-            ∙ sym (tallied_then s.envelopes s.rows e (at_boundary m (unbounded_walk edition m false) left))
+            boundary_law m next (with_envelope s.counts rows) edition inside (ne_eqb (s.counts.envelopes + 1) 0 (λ is. omega arith))
+            ∙ (λ i. tallied (s.counts.envelopes + 1) (s.counts.rows + sym its i) (at_boundary m (unbounded_walk edition m false) ((ap (λ n. drop n m) (sym ends) ∙ left_at m s.at e left within so.bytes) i)))
+            ∙ sym (tallied_then s.counts.envelopes s.counts.rows e (at_boundary m (unbounded_walk edition m false) left))
             ∙ sym (result_by (closed e left) is);
       }
   closed_by (whole e) is so next rows found = let z : ◌≡◌ {A = ℕ} 0 1 = cc in absurd (omega arith)
   closed_by (refuse r) is so next rows found = let z : ◌≡◌ {A = ℕ} 0 1 = cc in absurd (omega arith)
   closed_by (refuse_at r from) is so next rows found = let z : ◌≡◌ {A = ℕ} 0 1 = cc in absurd (omega arith)
 
-  pub turn_closed : (next rows : ℕ) → placed s.at (shown m (read_envelope edition s.first (drop s.at m))) ≡ Ok (Closed next rows) → ClosedBy next rows
-  turn_closed next rows found = closed_by (read_envelope edition s.first (drop s.at m)) refl (step_so edition s.first (drop s.at m)) next rows found
+  pub turn_closed : (next rows : ℕ) → placed s.at (shown m (read_envelope edition (first_due s) (drop s.at m))) ≡ Ok (Closed next rows) → ClosedBy next rows
+  turn_closed next rows found = closed_by (read_envelope edition (first_due s) (drop s.at m)) refl (step_so edition (first_due s) (drop s.at m)) next rows found
 
-  pub closed_so : (next rows : ℕ) → ClosedBy next rows → TurnSo edition m s (boundary_turn m next (s.envelopes + 1) (s.rows + rows))
+  pub closed_so : (next rows : ℕ) → ClosedBy next rows → TurnSo edition m s (boundary_turn m next (with_envelope s.counts rows))
   closed_so next rows by =
       let a = by.further in
       let b = sound.few_envelopes in
       let c = sound.few_rows in
-      record { same = by.same; further = boundary_further m next (s.envelopes + 1) (s.rows + rows) by.inside (omega arith) (omega arith) s.at (omega arith) }
+      record { same = by.same; further = boundary_further m next (with_envelope s.counts rows) by.inside (omega arith) (omega arith) s.at (omega arith) }
 
-  whole_by : (step : Step) → read_envelope edition s.first (drop s.at m) ≡ step → StepSo edition s.first (drop s.at m) step → (rows : ℕ) → placed s.at (shown m step) ≡ Ok (Whole rows)
-      → (rows ≤ length m) × (Ok (record { envelopes = s.envelopes + 1; rows = s.rows + rows }) ≡ result_of edition m s)
+  whole_by : (step : Step) → read_envelope edition (first_due s) (drop s.at m) ≡ step → StepSo edition (first_due s) (drop s.at m) step → (rows : ℕ) → placed s.at (shown m step) ≡ Ok (Whole rows)
+      → (rows ≤ length m) × (Ok (with_envelope s.counts rows) ≡ result_of edition m s)
   whole_by (closed e left) is so rows found = let z : ◌≡◌ {A = ℕ} 0 1 = cc in absurd (omega arith)
   whole_by (whole e) is so rows found =
       let its : row_count e ≡ rows = cc in
       let few = few_rows_lem e in
       let bytes_long = ap length so.bytes in
       let long = length-drop s.at m in
-      let sum : s.rows + rows ≡ s.rows + (row_count e + 0) = omega arith in
-      (omega arith, ap (λ n. Ok (record { envelopes = s.envelopes + 1; rows = n })) sum ∙ sym (result_by (whole e) is))
+      let sum : s.counts.rows + rows ≡ s.counts.rows + (row_count e + 0) = omega arith in
+      (omega arith, ap (λ n. Ok (record { envelopes = s.counts.envelopes + 1; rows = n })) sum ∙ sym (result_by (whole e) is))
   whole_by (refuse r) is so rows found = let z : ◌≡◌ {A = ℕ} 0 1 = cc in absurd (omega arith)
   whole_by (refuse_at r from) is so rows found = let z : ◌≡◌ {A = ℕ} 0 1 = cc in absurd (omega arith)
 
-  pub turn_whole : (rows : ℕ) → placed s.at (shown m (read_envelope edition s.first (drop s.at m))) ≡ Ok (Whole rows)
-      → (rows ≤ length m) × (Ok (record { envelopes = s.envelopes + 1; rows = s.rows + rows }) ≡ result_of edition m s)
-  turn_whole rows found = whole_by (read_envelope edition s.first (drop s.at m)) refl (step_so edition s.first (drop s.at m)) rows found
+  pub turn_whole : (rows : ℕ) → placed s.at (shown m (read_envelope edition (first_due s) (drop s.at m))) ≡ Ok (Whole rows)
+      → (rows ≤ length m) × (Ok (with_envelope s.counts rows) ≡ result_of edition m s)
+  turn_whole rows found = whole_by (read_envelope edition (first_due s) (drop s.at m)) refl (step_so edition (first_due s) (drop s.at m)) rows found
 
-  refused_by : (step : Step) → read_envelope edition s.first (drop s.at m) ≡ step → (r : Refusal) → placed s.at (shown m step) ≡ Err r → Err r ≡ result_of edition m s
+  refused_by : (step : Step) → read_envelope edition (first_due s) (drop s.at m) ≡ step → (r : Refusal) → placed s.at (shown m step) ≡ Err r → Err r ≡ result_of edition m s
   refused_by (closed e left) is r found = let z : ◌≡◌ {A = ℕ} 0 1 = cc in absurd (omega arith)
   refused_by (whole e) is r found = let z : ◌≡◌ {A = ℕ} 0 1 = cc in absurd (omega arith)
   refused_by (refuse why) is r found =
@@ -189,5 +184,7 @@ module _ (edition : Edition) (m : Bytes) (s : State) (sound : Sound m s) where
       ap Err (ap (refusal_in r) (sym found)) ∙ (λ i. Err (record { reason = why; place = place i })) ∙ sym (result_by (refuse why) is)
   refused_by (refuse_at why from) is r found = ap Err (ap (refusal_in r) (sym found)) ∙ sym (result_by (refuse_at why from) is)
 
-  pub turn_refused : (r : Refusal) → placed s.at (shown m (read_envelope edition s.first (drop s.at m))) ≡ Err r → Err r ≡ result_of edition m s
-  turn_refused r found = refused_by (read_envelope edition s.first (drop s.at m)) refl r found
+  pub turn_refused : (r : Refusal) → placed s.at (shown m (read_envelope edition (first_due s) (drop s.at m))) ≡ Err r → Err r ≡ result_of edition m s
+  turn_refused r found = refused_by (read_envelope edition (first_due s) (drop s.at m)) refl r found
+
+pub ruleset turn_steps = (turn_closed, turn_whole, turn_refused)

@@ -1,5 +1,5 @@
 -- The walk over the envelopes, a turn at a time: where it stands, and what the message comes to from there.
-use Rattle.std.specs.Prelude.{Result, ℕ, ◌+◌, ◌≤◌, ◌<◌, ◌≡◌, false, cond, length, get_or, drop, leb, eqb, Err, Ok}
+use Rattle.std.specs.Prelude.{Result, ℕ, ◌+◌, ◌≤◌, ◌<◌, ◌≡◌, Bool, cond, length, get_or, drop, leb, eqb, Err, Ok}
 use Rattle.std.specs.declared.ops.ControlFlow.{ControlFlow}
 use Rattle.std.specs.declared.ops.ControlFlow.TheVariants.{Break, Continue}
 use Rattle.label.specs.ReadMessage.{unbounded_walk}
@@ -12,9 +12,17 @@ use Rattle.label.specs.declared.Refusal.{Refusal}
 use Rattle.judge.specs.Shown.{tallied}
 use Rattle.label.specs.Answer.{Reading}
 
+-- whether no envelope was counted yet, so that the one that is due is the message's first
+abbrev pub first_due : State → Bool
+first_due s = eqb s.counts.envelopes 0
+
 -- what a message comes to from a state on
 abbrev pub result_of : Edition → Bytes → State → Reading
-result_of edition m s = tallied s.envelopes s.rows (unbounded_walk edition m s.first (drop s.at m))
+result_of edition m s = tallied s.counts.envelopes s.counts.rows (unbounded_walk edition m (first_due s) (drop s.at m))
+
+-- counts with another envelope, given its rows
+abbrev pub with_envelope : Counts → ℕ → Counts
+with_envelope counts rows = record { envelopes = counts.envelopes + 1; rows = counts.rows + rows }
 
 -- what a turn comes to: the counts of a message that ends here, or where the walk goes on; or the refusal
 abbrev pub Turned : Type 0
@@ -34,8 +42,8 @@ result_after edition m (Err r) = Err r
 -- a state that lies in the message, and has counted no more than it has passed
 pub record Sound (m : Bytes) (s : State) : Type 0 where
   pub inside : s.at ≤ length m
-  pub few_envelopes : s.envelopes ≤ s.at
-  pub few_rows : s.rows ≤ s.at
+  pub few_envelopes : s.counts.envelopes ≤ s.at
+  pub few_rows : s.counts.rows ≤ s.at
 
 abbrev pub Further : Bytes → ℕ → Turned → Type 0
 Further m at (Ok (Break counts)) = Unit {0}
@@ -48,10 +56,9 @@ pub record TurnSo (edition : Edition) (m : Bytes) (s : State) (t : Turned) : Typ
   pub further : Further m s.at t
 
 -- at a boundary after an envelope, with the counts so far: 4, then EOT with 5, then the next envelope
-abbrev pub boundary_turn : Bytes → ℕ → ℕ → ℕ → Turned
-boundary_turn m at envelopes rows =
+abbrev pub boundary_turn : Bytes → ℕ → Counts → Turned
+boundary_turn m at counts =
     cond (leb (length m) at) (Err (record { reason = NoTrailer; place = at }))
     (cond (eqb (get_or m at 0) EOT)
-    (cond (leb (length m) (at + 1)) (done (record { envelopes = envelopes; rows = rows }))
-    (Err (record { reason = BytesAfterTrailer; place = at + 1 })))
-    (go (record { at = at; first = false; envelopes = envelopes; rows = rows })))
+    (cond (leb (length m) (at + 1)) (done counts) (Err (record { reason = BytesAfterTrailer; place = at + 1 })))
+    (go (record { at = at; counts = counts })))

@@ -2,7 +2,7 @@
 use Rattle.std.specs.Prelude.{Ok}
 use Prim.Native.Nat.{ℕ, ◌+◌, ◌-◌, ◌≤◌, ◌<◌}
 use mathlib.Core.Path.{◌≡◌, refl, sym, ap, ◌∙◌, subst}
-use mathlib.Core.Bool.{Bool, true, false}
+use mathlib.Core.Bool.{true}
 use mathlib.Core.List.{List}
 use native.Mathlib.Omega.{arith}
 use borrow.Author.Tests.{ne_eqb, eq-eqb, le-ltb}
@@ -15,9 +15,8 @@ use Rattle.label.specs.Limits.{most_rows}
 use Rattle.label.specs.ReadMessage.{reading, unbounded_walk}
 use Rattle.label.proofs.Tests.{cond_no}
 use Rattle.judge.specs.declared.State.{State}
-use Rattle.judge.specs.Shown.{judged_as, tallied, limited}
-use Rattle.envelope.specs.Shown.{placed}
-use Rattle.judge.specs.Turns.{go, result_of, Sound, TurnSo, boundary_turn}
+use Rattle.judge.specs.Shown.{placed, judged_as, tallied, limited}
+use Rattle.judge.specs.Turns.{first_due, go, result_of, Sound, TurnSo, boundary_turn}
 use Rattle.judge.proofs.WalkLaws.{boundary_next, boundary_last, turn_closed, closed_so}
 use Rattle.judge.proofs.JudgeLaws.{judge_walk}
 use Rattle.sweeps.specs.declared.Unswept.{Unswept}
@@ -25,25 +24,26 @@ use Rattle.walk.specs.Cursors.{indicator_at, first_cursor}
 use Rattle.sweeps.proofs.Framing.{more_behind}
 use Rattle.sweeps.specs.Quick.{Passed, Headed, Kept, Noted, EnvelopeSwept, FirstAt, EndsSo, SweptSo}
 
-abbrev state_of : ℕ → Bool → ℕ → ℕ → State
-state_of at first envelopes rows = record { at = at; first = first; envelopes = envelopes; rows = rows }
+abbrev counts_of : ℕ → ℕ → Counts
+counts_of envelopes rows = record { envelopes = envelopes; rows = rows }
+
+abbrev state_of : ℕ → ℕ → ℕ → State
+state_of at envelopes rows = record { at = at; counts = counts_of envelopes rows }
 
 -- where the sweep stands: from here on the message comes to what it comes to from its header on, with the envelopes and rows gone over
 pub record Going (edition : Edition) (m : Bytes) (from : ℕ) (notes : List ℕ) (at envelopes rows : ℕ) : Type 0 where
   pub headed : Headed m
-  pub first : Bool
-  pub only : FirstAt at first
+  pub only : FirstAt at (first_due (state_of at envelopes rows))
   pub behind : 4 ≤ at
   pub inside : at + 1 < length m
-  pub sound : Sound m (state_of at first envelopes rows)
-  pub same : result_of edition m (state_of at first envelopes rows) ≡ tallied 0 0 (unbounded_walk edition m true (drop 4 m))
+  pub sound : Sound m (state_of at envelopes rows)
+  pub same : result_of edition m (state_of at envelopes rows) ≡ tallied 0 0 (unbounded_walk edition m true (drop 4 m))
   pub noted : Noted m from notes rows (indicator_at m at)
 
 pub going_first : (edition : Edition) (m : Bytes) (from : ℕ) (notes : List ℕ) → Headed m → Going edition m from notes 4 0 0
 unfolding first_cursor
 going_first edition m from notes headed = record {
   headed = headed;
-  first = true;
   only = λ is. refl;
   behind = omega arith;
   inside = headed.long;
@@ -54,18 +54,18 @@ going_first edition m from notes headed = record {
 
 module _ (edition : Edition) (m : Bytes) (from : ℕ) (notes : List ℕ) (at envelopes rows : ℕ) (going : Going edition m from notes at envelopes rows) (p : Passed) (new : List ℕ) (swept : EnvelopeSwept edition m from at rows p new) where
   abbrev here : State
-  here = state_of at going.first envelopes rows
+  here = state_of at envelopes rows
 
   sum : rows + (p.rows - rows) ≡ p.rows
   sum = omega (arith, swept.more)
 
-  turned : TurnSo edition m here (boundary_turn m p.next (envelopes + 1) p.rows)
-  turned = subst (λ (n : ℕ). TurnSo edition m here (boundary_turn m p.next (envelopes + 1) n)) sum
-      (closed_so edition m here going.sound p.next (p.rows - rows) (turn_closed edition m here going.sound p.next (p.rows - rows) (ap (placed here.at) (swept.closes going.first going.only))))
+  turned : TurnSo edition m here (boundary_turn m p.next (counts_of (envelopes + 1) p.rows))
+  turned = subst (λ (n : ℕ). TurnSo edition m here (boundary_turn m p.next (counts_of (envelopes + 1) n))) sum
+      (closed_so edition m here going.sound p.next (p.rows - rows) (turn_closed edition m here going.sound p.next (p.rows - rows) (ap (placed here.at) (swept.closes (first_due here) going.only))))
 
   -- another envelope
-  gone_on : (get_or m p.next 0 ≡ EOT → ⊥) → TurnSo edition m here (go (state_of p.next false (envelopes + 1) p.rows))
-  gone_on other = subst (TurnSo edition m here) (sym (boundary_next m p.next (envelopes + 1) p.rows swept.inside (ne_eqb (get_or m p.next 0) EOT other))) turned
+  gone_on : (get_or m p.next 0 ≡ EOT → ⊥) → TurnSo edition m here (go (state_of p.next (envelopes + 1) p.rows))
+  gone_on other = subst (TurnSo edition m here) (sym (boundary_next m p.next (counts_of (envelopes + 1) p.rows) swept.inside (ne_eqb (get_or m p.next 0) EOT other))) turned
 
   pub further_on : (get_or m p.next 0 ≡ EOT → ⊥) → at < p.next
   further_on other = (gone_on other).further.1
@@ -76,7 +76,6 @@ module _ (edition : Edition) (m : Bytes) (from : ℕ) (notes : List ℕ) (at env
       let later = so.further.1 in
       record {
         headed = going.headed;
-        first = false;
         only = λ is. absurd (omega (arith, later, going.behind, is));
         behind = omega (arith, later, going.behind);
         inside = more_behind m going.headed.framed p.next swept.inside other;
@@ -88,8 +87,7 @@ module _ (edition : Edition) (m : Bytes) (from : ℕ) (notes : List ℕ) (at env
   -- the end
   good_end : get_or m p.next 0 ≡ EOT → length m ≡ p.next + 1 → p.rows ≤ most_rows → judged_as (reading edition m) ≡ Ok (record { envelopes = envelopes + 1; rows = p.rows })
   good_end is last few =
-      let counts : Counts = record { envelopes = envelopes + 1; rows = p.rows } in
-      let so = subst (TurnSo edition m here) (sym (boundary_last m p.next (envelopes + 1) p.rows swept.inside (eq-eqb (get_or m p.next 0) EOT is) (omega (arith, last)))) turned in
+      let so = subst (TurnSo edition m here) (sym (boundary_last m p.next (counts_of (envelopes + 1) p.rows) swept.inside (eq-eqb (get_or m p.next 0) EOT is) (omega (arith, last)))) turned in
       sym (judge_walk edition m going.headed.framed.short going.headed.begins (omega (arith, going.headed.long)))
       ∙ ap limited (sym (so.same ∙ going.same))
       ∙ cond_no _ _ _ (le-ltb most_rows p.rows few)
