@@ -1,4 +1,4 @@
--- How rows get into a table: five stores put a row, and a row that is put stands behind those that stand already. And which rows notes are.
+-- How rows get into a table: a row that is put stands behind those that stand already. And which rows notes have.
 use Prim.Native.Nat.{ℕ, zero, suc, ◌+◌, ◌-◌, ◌*◌, ◌/◌, ◌≤◌, ◌<◌}
 use mathlib.Core.Path.{◌≡◌, refl, sym, ap, ◌∙◌}
 use mathlib.Core.List.{List, [], ◌∷◌, ◌++◌, map, append_assoc}
