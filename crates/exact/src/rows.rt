@@ -23,7 +23,8 @@ fn put_row(t: &mut [u32], at: usize, c: Cursor, ordinal: u32)
     t[at..at + ROW].copy_from_slice(&row);
 }
 
-// Fills a table with the rows of a message, whose number is known; what lies behind them stays as it was.
+// Fills a table with the rows of a message, whose number is known; what lies behind them stays as it was. By a row's number: of a table
+// whose `as_chunks_mut` were written a proof knows the length alone.
 pub(crate) fn fill(m: &[u8], rows: usize, table: &mut [u32])
     requires { Room m.now rows table.old }
     ensures { FilledWith m.now rows table.old table.new }

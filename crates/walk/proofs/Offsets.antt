@@ -1,4 +1,4 @@
--- Laws of offsets: what a digit is worth, the offset so many bytes further, and one turn of a run of bytes of a class, by the byte at an offset and those behind it.
+-- Laws of offsets: what a digit is worth, the offset so many bytes further, and one turn of a run of bytes of a class.
 use Prim.Native.Nat.{ℕ, suc, ◌+◌, ◌-◌, ◌≤◌, ◌<◌}
 use mathlib.Core.Path.{◌≡◌, ap, ◌∙◌}
 use mathlib.Core.Bool.{Bool, true, cond}
