@@ -1,4 +1,4 @@
--- What is found of a body, by the tests that the code makes of where the first RS is, of the bytes before it and of their rules.
+-- What is found of a body that keeps its rules; that a fault lies in its body; and how many rows a body has at most.
 use Prim.Native.Nat.{ℕ, ◌+◌, ◌-◌, ◌≤◌, ◌<◌}
 use mathlib.Core.Path.{◌≡◌, sym}
 use mathlib.Core.Bool.{true}

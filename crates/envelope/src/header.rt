@@ -37,7 +37,8 @@ pub(crate) fn value_end(due: Due, sizes: RangeInclusive<usize>, k: Class) -> Res
     Err(Reason::BadFormatHeader)
 }
 
-// The number that the digits of a count make; a byte below `0` adds nothing.
+// The number that the digits of a count make. `value` has a number for every byte: one below `0` adds nothing. A loop: that a sum fits
+// follows from how many digits came before, which a fold's closure isn't told.
 pub(crate) fn digits_value(s: &[u8]) -> usize
     requires { length s.now ≤ count_length.1 }
     ensures { result ≡ value s.now }
