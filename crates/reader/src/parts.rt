@@ -1,12 +1,28 @@
 // The part of a message that a row names, handed back uncopied.
 ghost use Rattle.std.specs.Prelude.{◌+◌, ◌≡◌, take, drop};
 ghost use Rattle.label.specs.Part.{part_of};
+ghost use Rattle.label.specs.Limits.{most_rows};
 ghost use Rattle.stretches.specs.Stretches.{Lies};
+ghost use Rattle.sweeps.specs.Quick.{GoodSwept};
 
-use crate::quick::{framed, sweep};
-use label::{Edition, MOST_ROWS, Stretch};
+use crate::quick::{Notes, framed, sweep};
+use label::{Counts, Edition, MOST_ROWS, Stretch};
 use noted::NOTE;
 use sweeps::Wanted;
+
+// Where a row's part lies in a message that was swept, by the note of this row.
+fn stretch_swept(
+    edition: Edition,
+    m: &[u8],
+    row: usize,
+    found: Counts,
+    note: &[u16; NOTE],
+) -> Stretch
+    requires { GoodSwept edition m.now (record { from = row; most = most_rows }) note.now found }
+    ensures { Lies edition m.now row result.start result.length }
+{
+    noted::stretch_noted(row, found.rows, note)
+}
 
 // Where a row's part lies; the empty start where there is no such row. The quick path notes this row alone.
 pub fn stretch_of(edition: Edition, m: &[u8], row: usize) -> Stretch
@@ -15,7 +31,10 @@ pub fn stretch_of(edition: Edition, m: &[u8], row: usize) -> Stretch
     if !framed(m) {
         return stretches::stretch_exactly(edition, m, row);
     }
-    let mut note = [0u16; NOTE];
+    let mut notes = Notes {
+        rows: 0,
+        numbers: [0u16; NOTE],
+    };
     let swept = sweep(
         edition,
         m,
@@ -23,10 +42,10 @@ pub fn stretch_of(edition: Edition, m: &[u8], row: usize) -> Stretch
             from: row,
             most: MOST_ROWS,
         },
-        &mut note,
+        &mut notes,
     );
     match swept {
-        Ok(counts) => noted::stretch_noted(row, counts.rows, &note),
+        Ok(counts) => stretch_swept(edition, m, row, counts, &notes.numbers),
         Err(_) => stretches::stretch_exactly(edition, m, row),
     }
 }

@@ -13,3 +13,4 @@ mod text;
 mod transport;
 
 pub(crate) use message::{framed, sweep};
+pub(crate) use notes::Notes;

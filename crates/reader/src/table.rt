@@ -6,7 +6,7 @@ ghost use Rattle.label.specs.Answer.{answer_of, room_of, read_answer, table_afte
 ghost use Rattle.noted.specs.Noted.{note_width};
 ghost use Rattle.sweeps.specs.Quick.{Headed, Handed};
 
-use crate::quick::{framed, sweep};
+use crate::quick::{Notes, framed, sweep};
 use label::{Counts, Edition, Reading};
 use noted::{NOTE, NOTES};
 use sweeps::{Unswept, Wanted};
@@ -43,13 +43,16 @@ fn read_noting<const NUMBERS: usize>(
     ensures rows { OnOk result (table.new ≡ table_after edition message.now table.old) }
     ensures left { OnErr result (table.new ≡ table.old) }
 {
-    let mut numbers = [0u16; NUMBERS];
     let wanted = Wanted {
         from: 0,
         most: NUMBERS / NOTE,
     };
-    let counts = sweep(edition, message, wanted, &mut numbers)?;
-    Ok(hand_over(edition, message, counts, &numbers, table))
+    let mut notes = Notes {
+        rows: 0,
+        numbers: [0u16; NUMBERS],
+    };
+    let counts = sweep(edition, message, wanted, &mut notes)?;
+    Ok(hand_over(edition, message, counts, &notes.numbers, table))
 }
 
 // Reads a message of any bytes and any length, in an edition, into a table of any length, whose room is its length divided by the

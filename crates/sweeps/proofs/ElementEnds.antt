@@ -9,6 +9,7 @@ use borrow.Author.Tests.{leb-true, le-leb, ltb-false}
 use lib.ListN.{length, get_or, take, drop}
 use lib.Seq.{take-nil, drop-drop, get_or-drop}
 use lib.Dec.{leb, ltb}
+use Rattle.std.specs.List.{prefix_len}
 use Rattle.label.specs.Bytes.{Bytes, between, plain, digit, capital, is_empty}
 use Rattle.label.specs.Elements.{capital_and_more, after_digits, element06}
 use Rattle.label.proofs.Tests.{both, and_both, Implies}
@@ -17,7 +18,7 @@ use Rattle.walk.specs.Cursors.{plain_run}
 use Rattle.sweeps.specs.Quick.{Framed, digit_run, RunsTo, PassesTo}
 use Rattle.walk.proofs.Offsets.{run_by}
 use Rattle.walk.proofs.Shaped.{digit_plain}
-use Rattle.sweeps.proofs.Framing.{class_behind}
+use Rattle.sweeps.proofs.Framing.{class_behind, digit_behind}
 
 -- neither of two tests holds
 pub neither : (a b : Bool) → (a || b) ≡ false → (a ≡ false) × (b ≡ false)
@@ -25,8 +26,22 @@ neither true b h = absurd (true≢false h)
 neither false b h = (refl, h)
 
 -- one turn over the digits in front
-pub digits_by : (m : Bytes) (i : ℕ) → i < length m → (n : ℕ) (t : Bool) → digit (get_or m i 0) ≡ t → digit_run (suc n) (drop i m) ≡ cond t (suc (digit_run n (drop (i + 1) m))) 0
+digits_by : (m : Bytes) (i : ℕ) → i < length m → (n : ℕ) (t : Bool) → digit (get_or m i 0) ≡ t → digit_run (suc n) (drop i m) ≡ cond t (suc (digit_run n (drop (i + 1) m))) 0
 digits_by m i inside n t is = ap (digit_run (suc n)) (drop_step m i inside) ∙ ap (λ t. cond t (suc (digit_run n (drop (i + 1) m))) 0) is
+
+-- the digits in front are counted, and end before the message does
+pub digits_counted : (n : ℕ) (bs : Bytes) → prefix_len digit (take n bs) ≡ digit_run n bs
+digits_counted zero bs = refl
+digits_counted (suc n) [] = refl
+digits_counted (suc n) (b ∷ bs) = ap (λ k. cond (digit b) k 0) (ap (λ k. 1 + k) (digits_counted n bs) ∙ omega arith)
+
+pub digits_inside : (m : Bytes) → Framed m → (n at : ℕ) → at < length m → at + digit_run n (drop at m) < length m
+digits_inside m framed zero at inside = omega arith
+digits_inside m framed (suc n) at inside = by (digit (get_or m at 0)) refl (digits_inside m framed n (at + 1))
+  where
+    by : (t : Bool) → digit (get_or m at 0) ≡ t → (at + 1 < length m → at + 1 + digit_run n (drop (at + 1) m) < length m) → at + digit_run (suc n) (drop at m) < length m
+    by true is later = omega (arith, digits_by m at inside n true is, later (digit_behind m framed at inside is))
+    by false is later = omega (arith, digits_by m at inside n false is)
 
 -- a run of plain bytes goes over the digits in front
 run_digits : (n : ℕ) (bs : Bytes) → plain_run bs ≡ digit_run n bs + plain_run (drop (digit_run n bs) bs)

@@ -1,13 +1,15 @@
 -- From a swept body to its format, and from a format to its envelope: what is found by offsets is what reading shows, and the walk stands at the next indicator.
 use Prim.Native.Nat.{ℕ, ◌+◌, ◌-◌, ◌*◌, ◌≤◌, ◌<◌}
 use mathlib.Core.Path.{◌≡◌, refl, sym, ap, ◌∙◌, subst}
-use mathlib.Core.Bool.{Bool, true, false, ◌&&◌, ◌||◌, cond}
+use mathlib.Core.Bool.{Bool, true, false, ◌&&◌, cond}
 use mathlib.Core.List.{List, [], ◌∷◌}
 use native.Mathlib.Omega.{arith}
-use borrow.Author.Tests.{le-leb, ltb-false}
+use borrow.Author.Tests.{le-leb, leb-true}
 use lib.ListN.{length, get_or, take, drop, length-take, length-drop}
 use lib.Seq.{drop-drop, get_or-drop, get_or_at, length-take-le}
-use lib.Dec.{eqb, ltb}
+use lib.Dec.{eqb, leb}
+use Rattle.std.specs.Prelude.{Some, None, Result, IfOk}
+use Rattle.std.proofs.lemmas.Result.{IfOk-weaker}
 use Rattle.label.specs.declared.Reason.TheVariants.{BadFormatHeader}
 use Rattle.label.specs.declared.Edition.{Edition}
 use Rattle.label.specs.Bytes.{Bytes, GS, RS, between, digit, every}
@@ -17,9 +19,11 @@ use Rattle.label.specs.Formats.{widest, rule_of, text_byte}
 use Rattle.label.specs.ReadEnvelope.{read_by}
 use Rattle.label.specs.ReadMessage.{agreement}
 use Rattle.label.proofs.Editions.{is_known, known_in_widest}
-use Rattle.label.proofs.Tests.{and_both, cond_yes}
+use Rattle.label.proofs.Tests.{both, and_both, cond_yes}
 use Rattle.formats.specs.declared.Shape.{Shape}
 use Rattle.formats.specs.Shapes.{rule_for}
+use Rattle.formats.proofs.Table.{number_for, number_of}
+use Rattle.leaves.specs.Classes.{digit_of}
 use Rattle.leaves.specs.Seek.{seek}
 use Rattle.leaves.proofs.Turns.{drop_step}
 use Rattle.pieces.specs.declared.Kind.{Kind}
@@ -35,10 +39,10 @@ use Rattle.envelope.proofs.HeaderLaws.{drop_two, read_some}
 use Rattle.envelope.proofs.FormatLaws.{shown_elements, shown_text}
 use Rattle.walk.specs.declared.Stage.TheVariants.{Indicator, Piece, Body}
 use Rattle.walk.specs.declared.Cursor.{Cursor}
+use Rattle.sweeps.specs.declared.Unswept.{Unswept}
 use Rattle.sweeps.specs.declared.Wanted.{Wanted}
 use Rattle.walk.specs.Cursors.{ahead, standing, plain_row, indicator_at, opening, following, next_cursor}
 use Rattle.sweeps.specs.Quick.{Passed, Framed, Noted, NotedOne, Indicates, ElementsOf, BodySwept, FormatSwept, KnownSwept, EnvelopeSwept, StandsAt}
-use Rattle.sweeps.proofs.ElementEnds.{neither}
 use Rattle.sweeps.proofs.Framing.{byte_behind, digit_behind}
 
 module _ (m : Bytes) (at : ℕ) (inside : at < length m) where
@@ -50,14 +54,25 @@ module _ (m : Bytes) (at : ℕ) (inside : at < length m) where
   begins_gs : get_or m at 0 ≡ GS → begins_at (GS ∷ []) m at ≡ true
   begins_gs is = ap (λ bs. eqb (agreement (GS ∷ []) bs) 1) (drop_step m at inside ∙ ap (λ b. b ∷ drop (at + 1) m) is)
 
--- a format by its number
-module _ (m : Bytes) (w : Wanted) (at rows f n : ℕ) (notes : List ℕ) (is : f ≡ n) where
-  pub due_as : StandsAt m w at rows notes (opening m f at (rule_of widest f)) → StandsAt m w at rows notes (opening m n at (rule_of widest n))
-  due_as stands = subst (λ (f : ℕ). StandsAt m w at rows notes (opening m f at (rule_of widest f))) is stands
+-- a format by its shape, which tells its number
+module _ (edition : Edition) (m : Bytes) (w : Wanted) (at rows f : ℕ) {found s : Shape} (is : found ≡ s) (known : is_known (rule_for s) ≡ true) (by : rule_for found ≡ rule_of edition f) where
+  ruled : rule_for s ≡ rule_of edition f
+  ruled = sym (ap rule_for is) ∙ by
 
-  pub swept_as : (edition : Edition) (s : Shape) (p : Passed) → is_known (rule_for s) ≡ true → rule_for s ≡ rule_of edition f → FormatSwept m w.from n at rows p notes → KnownSwept edition m w.from f at rows p notes
-  swept_as edition s p known rule swept =
-      (sym rule ∙ sym (known_in_widest edition f (rule_for s) (sym rule) known), subst (λ (f : ℕ). FormatSwept m w.from f at rows p notes) (sym is) swept)
+  numbered : f ≡ number_for s
+  numbered = number_of edition f s ruled known
+
+  pub shape_due : (notes : List ℕ) → StandsAt m w at rows notes (opening m f at (rule_of widest f)) → StandsAt m w at rows notes (opening m (number_for s) at (rule_of widest (number_for s)))
+  shape_due notes = subst (λ (f : ℕ). StandsAt m w at rows notes (opening m f at (rule_of widest f))) numbered
+
+  pub shape_swept : (notes : List ℕ) (last : ℕ) (r : Result ℕ Unswept) → IfOk r (λ next. FormatSwept m w.from (number_for s) at rows (record { next = next; rows = last }) notes)
+      → IfOk r (λ next. KnownSwept edition m w.from f at rows (record { next = next; rows = last }) notes)
+  shape_swept notes last r =
+      IfOk-weaker r _ _
+      (λ next swept. (
+        sym ruled ∙ sym (known_in_widest edition f (rule_for s) (sym ruled) known),
+        subst (λ (f : ℕ). FormatSwept m w.from f at rows (record { next = next; rows = last }) notes) (sym numbered) swept,
+      ))
 
 -- Elements
 
@@ -133,17 +148,32 @@ module _ (m : Bytes) (framed : Framed m) (from at rows end : ℕ) (inside : at <
 -- Envelopes
 
 -- a byte that is a digit
-pub is_digit : (b : ℕ) → (ltb b 0x30 || ltb 0x39 b) ≡ false → (0x30 ≤ b) × (b ≤ 0x39)
-is_digit b is = let k = neither (ltb b 0x30) (ltb 0x39 b) is in (ltb-false b 0x30 k.0, ltb-false 0x39 b k.1)
+-- what tells a byte's worth
+record Worth (b u : ℕ) : Type 0 where
+  is : digit b ≡ true
+  by : u ≡ b - 0x30
+  small : u ≤ 9
+
+worth_of : (b u : ℕ) → digit_of b ≡ Some u → Worth b u
+unfolding digit between
+worth_of b u = by (digit b) refl
+  where
+    by : (t : Bool) → digit b ≡ t → cond t (Some (b - 0x30)) None ≡ Some u → Worth b u
+    by true is tells =
+        let few = leb-true b 0x39 (both (leb 0x30 b) (leb b 0x39) is).right in
+        let worth : b - 0x30 ≡ u = cc in
+        record { is = is; by = sym worth; small = omega (arith, few, worth) }
+    by false is tells = absurd cc
 
 -- two digits at an offset
-pub indicates : (m : Bytes) (framed : Framed m) (at t f : ℕ) → at + 1 < length m → get_or m at 0 ≡ 0x30 + t → t ≤ 9 → 0x30 ≤ get_or m (at + 1) 0 → get_or m (at + 1) 0 ≤ 0x39
-    → f ≡ 10 * t + (get_or m (at + 1) 0 - 0x30) → Indicates m at f
+pub indicates : (m : Bytes) (framed : Framed m) (at t u f : ℕ) → at + 1 < length m → get_or m at 0 ≡ 0x30 + t → t ≤ 9 → digit_of (get_or m (at + 1) 0) ≡ Some u → f ≡ 10 * t + u → Indicates m at f
 unfolding digit between indicator_at
-indicates m framed at t f inside tens small least most is =
+indicates m framed at t u f inside tens small units made =
     let a = get_or m at 0 in
     let b = get_or m (at + 1) 0 in
-    let unit : digit b ≡ true = and_both (le-leb 0x30 b least) (le-leb b 0x39 most) in
+    let worth = worth_of b u units in
+    let unit = worth.is in
+    let is : f ≡ 10 * t + (b - 0x30) = omega (arith, made, worth.by) in
     let more = digit_behind m framed (at + 1) inside unit in
     let sum : 10 * (10 * 0 + (a - 0x30)) + (b - 0x30) ≡ f = omega (arith, tens, is) in
     let said : 10 * (a - 0x30) + (b - 0x30) ≡ f = omega (arith, tens, is) in
@@ -154,7 +184,7 @@ indicates m framed at t f inside tens small least most is =
           (and_both (and_both (le-leb 0x30 a (omega (arith, tens))) (le-leb a 0x39 (omega (arith, tens)))) unit)
           ∙ sum;
       row = ap (λ n. standing Indicator n at 2) said;
-      known = omega (arith, is);
+      known = omega (arith, made, worth.small);
     }
 
 module _ (m : Bytes) (framed : Framed m) (from at rows f : ℕ) (is : Indicates m at f) where

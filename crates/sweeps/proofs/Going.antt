@@ -92,7 +92,7 @@ module _ (edition : Edition) (m : Bytes) (from : ℕ) (notes : List ℕ) (at env
       ∙ ap limited (sym (so.same ∙ going.same))
       ∙ cond_no _ _ _ (le-ltb most_rows p.rows few)
 
-  pub ended_so : get_or m p.next 0 ≡ EOT → (most : ℕ) → most ≤ most_rows → (r : Result Counts Unswept) → EndsSo m p.next (envelopes + 1) p.rows most r → SweptSo edition m (record { from = from; most = most }) new r
+  pub ended_so : get_or m p.next 0 ≡ EOT → (most : ℕ) → most ≤ most_rows → (r : Result Counts Unswept) → EndsSo m p.next (record { envelopes = envelopes + 1; rows = p.rows }) most r → SweptSo edition m (record { from = from; most = most }) new r
   ended_so is most within (Ok counts) so = record {
     judged = good_end is so.0.0 (omega (arith, so.0.1)) ∙ ap Ok (sym so.1);
     few = omega (arith, so.0.1, ap (λ (c : Counts). c.rows) so.1);

@@ -168,9 +168,9 @@ abbrev pub SweptSo : Edition → Bytes → Wanted → List ℕ → Result Counts
 SweptSo edition m w notes swept = IfOk swept (GoodSwept edition m w notes)
 
 -- the counts so far are those of a message that ends here
-abbrev pub EndsSo : Bytes → ℕ → ℕ → ℕ → ℕ → Result Counts Unswept → Type 0
-EndsSo m at envelopes rows most (Ok counts) = ((length m ≡ at + 1) × (rows ≤ most)) × (counts ≡ record { envelopes = envelopes; rows = rows })
-EndsSo m at envelopes rows most (Err why) = why ≡ Left
+abbrev pub EndsSo : Bytes → ℕ → Counts → ℕ → Result Counts Unswept → Type 0
+EndsSo m at counts most (Ok ended) = ((length m ≡ at + 1) × (counts.rows ≤ most)) × (ended ≡ counts)
+EndsSo m at counts most (Err why) = why ≡ Left
 
 -- a message that was swept, with all its rows in the notes
 pub record Handed (edition : Edition) (m : Bytes) (counts : Counts) (notes : List ℕ) : Type 0 where

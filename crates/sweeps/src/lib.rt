@@ -24,7 +24,7 @@ pub struct Value {
 }
 
 // Why a message is left to the exact reader, which says what it is: it may have more rows than were asked for, or the sweep doesn't know at once.
-#[derive(Clone, Copy, Debug, PartialEq, Eq)]
+#[derive(Clone, Copy)]
 pub enum Unswept {
     Full,
     Left,

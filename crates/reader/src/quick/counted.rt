@@ -1,6 +1,6 @@
 // The quick path over formats 09 and 15: header values, each with its GS, then the payload and its RS. What it doesn't know at
 // once it leaves, as all of the quick path does.
-ghost use Rattle.std.specs.Prelude.{◌≡◌, ◌+◌, length, IfOk};
+ghost use Rattle.std.specs.Prelude.{◌≡◌, ◌+◌, IfOk};
 ghost use Rattle.label.specs.Formats.{widest, rule_of};
 ghost use Rattle.envelope.specs.Formats.{compression_found};
 ghost use Rattle.walk.specs.Cursors.{opening};
@@ -18,10 +18,14 @@ impl Sweep<'_> {
     // Goes over the row of a header value and answers the offset behind its GS. The compiler writes it and `payload` out where they are called, as
     // a call answers through memory: a reading of format 09 takes a fifth fewer instructions so (docs/PERFORMANCE.md, case d).
     #[inline(always)]
-    fn value(&self, v: Value, at: usize, notes: &mut Notes) -> Result<usize, Unswept>
-        requires { ValueDue self.now.message.now self.now.wanted v.format v.stage at notes.old.rows notes.old.numbers.now × PlainBytes v }
-        ensures swept { IfOk result (λ next. (notes.new.rows ≡ notes.old.rows + 1) × ValueSwept self.now.message.now self.now.wanted.from v at notes.old.rows next notes.new.numbers.now) }
-        ensures same { notes.new.numbers.ghost_name ≡ notes.old.numbers.ghost_name }
+    fn value<const N: usize>(
+        &self,
+        v: Value,
+        at: usize,
+        notes: &mut Notes<N>,
+    ) -> Result<usize, Unswept>
+        requires { ValueDue self.now.message.now self.now.wanted v.format v.stage at notes.old.rows notes.old.numbers × PlainBytes v }
+        ensures { IfOk result (λ next. (notes.new.rows ≡ notes.old.rows + 1) × ValueSwept self.now.message.now self.now.wanted.from v at notes.old.rows next notes.new.numbers) }
     {
         let m = self.message;
         let class = v.class;
@@ -40,10 +44,14 @@ impl Sweep<'_> {
 
     // The count and the payload of a format.
     #[inline(always)]
-    fn payload(&self, f: u32, count: usize, notes: &mut Notes) -> Result<usize, Unswept>
-        requires { ValueDue self.now.message.now self.now.wanted f Stage.CountValue count notes.old.rows notes.old.numbers.now }
-        ensures swept { IfOk result (λ next. CountSwept self.now.message.now self.now.wanted.from count notes.old.rows (record { next = next; rows = notes.new.rows }) notes.new.numbers.now) }
-        ensures same { notes.new.numbers.ghost_name ≡ notes.old.numbers.ghost_name }
+    fn payload<const N: usize>(
+        &self,
+        f: u32,
+        count: usize,
+        notes: &mut Notes<N>,
+    ) -> Result<usize, Unswept>
+        requires { ValueDue self.now.message.now self.now.wanted f Stage.CountValue count notes.old.rows notes.old.numbers }
+        ensures { IfOk result (λ next. CountSwept self.now.message.now self.now.wanted.from count notes.old.rows (record { next = next; rows = notes.new.rows }) notes.new.numbers) }
     {
         let m = self.message;
         let v = Value {
@@ -66,10 +74,9 @@ impl Sweep<'_> {
     }
 
     // The compression, and what follows it.
-    fn compression(&self, at: usize, notes: &mut Notes) -> Result<usize, Unswept>
-        requires { ValueDue self.now.message.now self.now.wanted 9 Stage.CompressionValue at notes.old.rows notes.old.numbers.now }
-        ensures swept { IfOk result (λ next. PartSwept self.now.message.now self.now.wanted.from (compression_found self.now.message.now at) 5 (notes.old.rows + 3) (record { next = next; rows = notes.new.rows }) notes.new.numbers.now) }
-        ensures same { notes.new.numbers.ghost_name ≡ notes.old.numbers.ghost_name }
+    fn compression<const N: usize>(&self, at: usize, notes: &mut Notes<N>) -> Result<usize, Unswept>
+        requires { ValueDue self.now.message.now self.now.wanted 9 Stage.CompressionValue at notes.old.rows notes.old.numbers }
+        ensures { IfOk result (λ next. PartSwept self.now.message.now self.now.wanted.from (compression_found self.now.message.now at) 5 (notes.old.rows + 3) (record { next = next; rows = notes.new.rows }) notes.new.numbers) }
     {
         let v = Value {
             format: 9,
@@ -83,10 +90,13 @@ impl Sweep<'_> {
     }
 
     // 09: GS, the type, and what follows it. There are four rows.
-    pub(crate) fn counted(&self, at: usize, notes: &mut Notes) -> Result<usize, Unswept>
-        requires { StandsAt self.now.message.now self.now.wanted at notes.old.rows notes.old.numbers.now (opening self.now.message.now 9 at (rule_of widest 9)) }
-        ensures swept { IfOk result (λ next. FormatSwept self.now.message.now self.now.wanted.from 9 at notes.old.rows (record { next = next; rows = notes.new.rows }) notes.new.numbers.now) }
-        ensures same { notes.new.numbers.ghost_name ≡ notes.old.numbers.ghost_name }
+    pub(crate) fn counted<const N: usize>(
+        &self,
+        at: usize,
+        notes: &mut Notes<N>,
+    ) -> Result<usize, Unswept>
+        requires { StandsAt self.now.message.now self.now.wanted at notes.old.rows notes.old.numbers (opening self.now.message.now 9 at (rule_of widest 9)) }
+        ensures { IfOk result (λ next. FormatSwept self.now.message.now self.now.wanted.from 9 at notes.old.rows (record { next = next; rows = notes.new.rows }) notes.new.numbers) }
     {
         if self.message[at] != GS {
             return Err(Unswept::Left);
@@ -103,10 +113,13 @@ impl Sweep<'_> {
     }
 
     // 15: the count right behind the indicator, and the payload. There are two rows.
-    pub(crate) fn count_only(&self, at: usize, notes: &mut Notes) -> Result<usize, Unswept>
-        requires { StandsAt self.now.message.now self.now.wanted at notes.old.rows notes.old.numbers.now (opening self.now.message.now 15 at (rule_of widest 15)) }
-        ensures swept { IfOk result (λ next. FormatSwept self.now.message.now self.now.wanted.from 15 at notes.old.rows (record { next = next; rows = notes.new.rows }) notes.new.numbers.now) }
-        ensures same { notes.new.numbers.ghost_name ≡ notes.old.numbers.ghost_name }
+    pub(crate) fn count_only<const N: usize>(
+        &self,
+        at: usize,
+        notes: &mut Notes<N>,
+    ) -> Result<usize, Unswept>
+        requires { StandsAt self.now.message.now self.now.wanted at notes.old.rows notes.old.numbers (opening self.now.message.now 15 at (rule_of widest 15)) }
+        ensures { IfOk result (λ next. FormatSwept self.now.message.now self.now.wanted.from 15 at notes.old.rows (record { next = next; rows = notes.new.rows }) notes.new.numbers) }
     {
         self.payload(15, at, notes)
     }

@@ -17,13 +17,12 @@ impl Sweep<'_> {
         requires { at < length self.now.message.now }
         ensures { (result ≡ at + digit_run 3 (drop at self.now.message.now)) × (result < length self.now.message.now) }
     {
-        let m = self.message;
-        for i in at..at + 3 {
-            if !leaves::in_class(Class::Digit, m[i]) {
-                return i;
-            }
-        }
-        at + 3
+        let digits = self.message[at..]
+            .iter()
+            .take(3)
+            .take_while(|b| leaves::in_class(Class::Digit, **b))
+            .count();
+        at + digits
     }
 
     // The end of an element of 06: each byte is looked at once.
@@ -44,16 +43,15 @@ impl Sweep<'_> {
     }
 
     // 05, 06, 12: GS, then elements.
-    pub(crate) fn elements(
+    pub(crate) fn elements<const N: usize>(
         &self,
         k: Kind,
         f: u32,
         at: usize,
-        notes: &mut Notes,
+        notes: &mut Notes<N>,
     ) -> Result<usize, Unswept>
-        requires { ElementsOf k f × StandsAt self.now.message.now self.now.wanted at notes.old.rows notes.old.numbers.now (opening self.now.message.now f at (rule_of widest f)) }
-        ensures swept { IfOk result (λ next. FormatSwept self.now.message.now self.now.wanted.from f at notes.old.rows (record { next = next; rows = notes.new.rows }) notes.new.numbers.now) }
-        ensures same { notes.new.numbers.ghost_name ≡ notes.old.numbers.ghost_name }
+        requires { ElementsOf k f × StandsAt self.now.message.now self.now.wanted at notes.old.rows notes.old.numbers (opening self.now.message.now f at (rule_of widest f)) }
+        ensures { IfOk result (λ next. FormatSwept self.now.message.now self.now.wanted.from f at notes.old.rows (record { next = next; rows = notes.new.rows }) notes.new.numbers) }
     {
         if self.message[at] != GS {
             return Err(Unswept::Left);

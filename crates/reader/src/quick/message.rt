@@ -24,10 +24,7 @@ impl Sweep<'_> {
         let m = self.message;
         let tens = m[at];
         let units = m[at + 1];
-        if (units < b'0') | (b'9' < units) {
-            return None;
-        }
-        let unit = u32::from(units - b'0');
+        let unit = u32::from(leaves::digit(units)?);
         match tens {
             b'0' => Some(unit),
             b'1' => Some(10 + unit),
@@ -36,16 +33,15 @@ impl Sweep<'_> {
     }
 
     // The format with a number, behind its indicator, by the shape that the edition gives it.
-    fn format(
+    fn format<const N: usize>(
         &self,
         edition: Edition,
         f: u32,
         at: usize,
-        notes: &mut Notes,
+        notes: &mut Notes<N>,
     ) -> Result<usize, Unswept>
-        requires { StandsAt self.now.message.now self.now.wanted at notes.old.rows notes.old.numbers.now (opening self.now.message.now f at (rule_of widest f)) }
-        ensures swept { IfOk result (λ next. KnownSwept edition self.now.message.now self.now.wanted.from f at notes.old.rows (record { next = next; rows = notes.new.rows }) notes.new.numbers.now) }
-        ensures same { notes.new.numbers.ghost_name ≡ notes.old.numbers.ghost_name }
+        requires { StandsAt self.now.message.now self.now.wanted at notes.old.rows notes.old.numbers (opening self.now.message.now f at (rule_of widest f)) }
+        ensures { IfOk result (λ next. KnownSwept edition self.now.message.now self.now.wanted.from f at notes.old.rows (record { next = next; rows = notes.new.rows }) notes.new.numbers) }
     {
         let shape = shape_in(edition, f as usize);
         match shape {
@@ -63,21 +59,39 @@ impl Sweep<'_> {
     }
 
     // An envelope: its indicator and its format.
-    fn envelope(&self, edition: Edition, at: usize, notes: &mut Notes) -> Result<usize, Unswept>
-        requires { StandsAt self.now.message.now self.now.wanted at notes.old.rows notes.old.numbers.now (indicator_at self.now.message.now at) × (at + 1 < length self.now.message.now) }
-        ensures swept { IfOk result (λ next. EnvelopeSwept edition self.now.message.now self.now.wanted.from at notes.old.rows (record { next = next; rows = notes.new.rows }) notes.new.numbers.now) }
-        ensures same { notes.new.numbers.ghost_name ≡ notes.old.numbers.ghost_name }
+    fn envelope<const N: usize>(
+        &self,
+        edition: Edition,
+        at: usize,
+        notes: &mut Notes<N>,
+    ) -> Result<usize, Unswept>
+        requires { StandsAt self.now.message.now self.now.wanted at notes.old.rows notes.old.numbers (indicator_at self.now.message.now at) × (at + 1 < length self.now.message.now) }
+        ensures { IfOk result (λ next. EnvelopeSwept edition self.now.message.now self.now.wanted.from at notes.old.rows (record { next = next; rows = notes.new.rows }) notes.new.numbers) }
     {
         let f = self.format_at(at).ok_or(Unswept::Left)?;
         notes.count(self.wanted, standing_at(Stage::Indicator, f, at, 2))?;
         self.format(edition, f, at + 2, notes)
     }
 
+    // At an EOT behind the last envelope: good if it is the message's last byte.
+    fn ended(&self, at: usize, counts: Counts) -> Result<Counts, Unswept>
+        requires { at < length self.now.message.now }
+        ensures { EndsSo self.now.message.now at counts self.now.wanted.most result }
+    {
+        if (self.wanted.most < counts.rows) | (self.message.len() - at != 1) {
+            return Err(Unswept::Left);
+        }
+        Ok(counts)
+    }
+
     // The whole message, an envelope a turn.
-    fn envelopes(&self, edition: Edition, notes: &mut Notes) -> Result<Counts, Unswept>
+    fn envelopes<const N: usize>(
+        &self,
+        edition: Edition,
+        notes: &mut Notes<N>,
+    ) -> Result<Counts, Unswept>
         requires { ((self.now.wanted.most ≤ most_rows) × (notes.old.rows ≡ 0)) × Headed self.now.message.now }
-        ensures swept { SweptSo edition self.now.message.now self.now.wanted notes.new.numbers.now result }
-        ensures same { notes.new.numbers.ghost_name ≡ notes.old.numbers.ghost_name }
+        ensures { SweptSo edition self.now.message.now self.now.wanted notes.new.numbers result }
     {
         let m = self.message;
         let mut at = HEADER_LENGTH;
@@ -86,7 +100,8 @@ impl Sweep<'_> {
             at = self.envelope(edition, at, notes)?;
             envelopes += 1;
             if m[at] == EOT {
-                return ended(m, at, envelopes, notes.rows, self.wanted.most);
+                let rows = notes.rows;
+                return self.ended(at, Counts { envelopes, rows });
             }
         }
     }
@@ -105,27 +120,15 @@ pub(crate) fn framed(m: &[u8]) -> bool
     tallies::is_headed(m) & (m[m.len() - 1] == EOT)
 }
 
-// At an EOT behind the last envelope: good if it is the message's last byte.
-fn ended(m: &[u8], at: usize, envelopes: usize, rows: usize, most: usize) -> Result<Counts, Unswept>
-    requires { at < length m.now }
-    ensures { EndsSo m.now at envelopes rows most result }
-{
-    if (most < rows) | (m.len() - at != 1) {
-        return Err(Unswept::Left);
-    }
-    Ok(Counts { envelopes, rows })
-}
-
 // Sweeps a whole message that is framed, in an edition. The rows that are wanted are in the notes where it is swept.
-pub(crate) fn sweep(
+pub(crate) fn sweep<const N: usize>(
     edition: Edition,
     message: &[u8],
     wanted: Wanted,
-    numbers: &mut [u16],
+    notes: &mut Notes<N>,
 ) -> Result<Counts, Unswept>
-    requires { (wanted.most ≤ most_rows) × Headed message.now }
-    ensures { SweptSo edition message.now wanted numbers.new result }
+    requires { ((wanted.most ≤ most_rows) × (notes.old.rows ≡ 0)) × Headed message.now }
+    ensures { SweptSo edition message.now wanted notes.new.numbers result }
 {
-    let mut notes = Notes { rows: 0, numbers };
-    Sweep { message, wanted }.envelopes(edition, &mut notes)
+    Sweep { message, wanted }.envelopes(edition, notes)
 }

@@ -1,5 +1,5 @@
-// Notes: the rows that the sweep has gone over, in memory that is lent, as four numbers each: kind, format, start and length.
-ghost use Rattle.std.specs.Prelude.{◌≡◌, ◌+◌, ◌<◌, ◌≤◌, length, set, IfOk};
+// Notes: the rows that the sweep has gone over, as four numbers each: kind, format, start and length.
+ghost use Rattle.std.specs.Prelude.{◌≡◌, ◌+◌, ◌≤◌, length, set, IfOk};
 ghost use Rattle.label.specs.Limits.{longest};
 ghost use Rattle.noted.specs.Noted.{note_width};
 ghost use Rattle.walk.specs.Cursors.{kind_of};
@@ -10,13 +10,15 @@ use sweeps::{Unswept, Wanted};
 use walk::{Cursor, kind_of};
 
 // So many rows gone over, and the numbers of those that are wanted, as far as there is room.
+// They are its own and not lent, so that no contract has to say that a borrow is the same one.
 #[derive(Drop)]
-pub(crate) struct Notes<'a> {
+pub(crate) struct Notes<const N: usize> {
     pub(crate) rows: usize,
-    pub(crate) numbers: &'a mut [u16],
+    pub(crate) numbers: [u16; N],
 }
 
 // Puts a row's numbers into the notes, from an index on.
+// By index: with `copy_from_slice`, which is a loop, a reading of many rows takes 58,000 instructions more, past its bar (docs/PERFORMANCE.md, b).
 fn put_note(notes: &mut [u16], at: usize, c: Cursor)
     requires { (at + note_width ≤ length notes.old) × ((c.start + c.length ≤ longest) × (c.format ≤ 99)) }
     ensures { notes.new ≡ set (set (set (set notes.old at (kind_of c.stage)) (at + 1) c.format) (at + 2) c.start) (at + 3) c.length }
@@ -41,18 +43,17 @@ fn note(notes: &mut [u16], from: usize, row: usize, c: Cursor)
     }
 }
 
-impl Notes<'_> {
+impl<const N: usize> Notes<N> {
     // Goes over a row, if there are not yet as many as were asked for.
     pub(crate) fn count(&mut self, w: Wanted, c: Cursor) -> Result<(), Unswept>
         requires { Notable w.most c }
-        ensures noted { IfOk result (λ u. CountedOne w self.old.rows self.old.numbers.now self.new.rows self.new.numbers.now c) }
-        ensures same { self.new.numbers.ghost_name ≡ self.old.numbers.ghost_name }
+        ensures { IfOk result (λ u. CountedOne w self.old.rows self.old.numbers self.new.rows self.new.numbers c) }
     {
         let row = self.rows;
         if w.most <= row {
             return Err(Unswept::Full);
         }
-        note(self.numbers, w.from, row, c);
+        note(&mut self.numbers, w.from, row, c);
         self.rows = row + 1;
         Ok(())
     }

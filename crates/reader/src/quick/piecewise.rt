@@ -1,5 +1,5 @@
 // The quick path over a body of pieces, elements or fields, up to an RS.
-ghost use Rattle.std.specs.Prelude.{◌≡◌, ◌<◌, length, IfSome, IfOk};
+ghost use Rattle.std.specs.Prelude.{◌<◌, length, IfSome, IfOk};
 ghost use Rattle.pieces.specs.PieceTests.{piece_test};
 ghost use Rattle.walk.specs.Cursors.{plain_row};
 ghost use Rattle.sweeps.specs.Quick.{PassesTo, IfSo, BodySwept, StandsAt};
@@ -45,16 +45,15 @@ impl Sweep<'_> {
 
     // Pieces from an offset on, up to an RS: a turn takes a piece and the byte behind it, which is looked at before the piece is noted, as the
     // sweep still has it in hand.
-    pub(crate) fn pieces(
+    pub(crate) fn pieces<const N: usize>(
         &self,
         k: Kind,
         f: u32,
         start: usize,
-        notes: &mut Notes,
+        notes: &mut Notes<N>,
     ) -> Result<usize, Unswept>
-        requires { PiecesOf k f × StandsAt self.now.message.now self.now.wanted start notes.old.rows notes.old.numbers.now (plain_row self.now.message.now Stage.Piece f start) }
-        ensures swept { IfOk result (λ next. BodySwept self.now.message.now self.now.wanted.from k start notes.old.rows (record { next = next; rows = notes.new.rows }) notes.new.numbers.now) }
-        ensures same { notes.new.numbers.ghost_name ≡ notes.old.numbers.ghost_name }
+        requires { PiecesOf k f × StandsAt self.now.message.now self.now.wanted start notes.old.rows notes.old.numbers (plain_row self.now.message.now Stage.Piece f start) }
+        ensures { IfOk result (λ next. BodySwept self.now.message.now self.now.wanted.from k start notes.old.rows (record { next = next; rows = notes.new.rows }) notes.new.numbers) }
     {
         let m = self.message;
         let before = notes.rows;

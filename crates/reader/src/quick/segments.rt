@@ -40,10 +40,14 @@ impl Sweep<'_> {
     }
 
     // The rows behind a tag, from its end up to the segment's FS: a turn takes a GS or a US and the plain bytes behind it.
-    fn later(&self, f: u32, start: usize, notes: &mut Notes) -> Result<usize, Unswept>
-        requires { SegmentsDue self.now.message.now self.now.wanted f start notes.old.rows notes.old.numbers.now (after_sub_element self.now.message.now f start) }
-        ensures swept { IfOk result (λ next. LaterSwept self.now.message.now self.now.wanted.from f start notes.old.rows (record { next = next; rows = notes.new.rows }) notes.new.numbers.now) }
-        ensures same { notes.new.numbers.ghost_name ≡ notes.old.numbers.ghost_name }
+    fn later<const N: usize>(
+        &self,
+        f: u32,
+        start: usize,
+        notes: &mut Notes<N>,
+    ) -> Result<usize, Unswept>
+        requires { SegmentsDue self.now.message.now self.now.wanted f start notes.old.rows notes.old.numbers (after_sub_element self.now.message.now f start) }
+        ensures { IfOk result (λ next. LaterSwept self.now.message.now self.now.wanted.from f start notes.old.rows (record { next = next; rows = notes.new.rows }) notes.new.numbers) }
     {
         let m = self.message;
         let mut end = start;
@@ -64,10 +68,14 @@ impl Sweep<'_> {
     }
 
     // A segment: its tag, and the rows behind it.
-    fn segment(&self, f: u32, at: usize, notes: &mut Notes) -> Result<usize, Unswept>
-        requires { SegmentsDue self.now.message.now self.now.wanted f at notes.old.rows notes.old.numbers.now (plain_row self.now.message.now Stage.Tag f at) }
-        ensures swept { IfOk result (λ next. SegmentSwept self.now.message.now self.now.wanted.from f at notes.old.rows (record { next = next; rows = notes.new.rows }) notes.new.numbers.now) }
-        ensures same { notes.new.numbers.ghost_name ≡ notes.old.numbers.ghost_name }
+    fn segment<const N: usize>(
+        &self,
+        f: u32,
+        at: usize,
+        notes: &mut Notes<N>,
+    ) -> Result<usize, Unswept>
+        requires { SegmentsDue self.now.message.now self.now.wanted f at notes.old.rows notes.old.numbers (plain_row self.now.message.now Stage.Tag f at) }
+        ensures { IfOk result (λ next. SegmentSwept self.now.message.now self.now.wanted.from f at notes.old.rows (record { next = next; rows = notes.new.rows }) notes.new.numbers) }
     {
         let end = self.tag_end(at).ok_or(Unswept::Left)?;
         notes.count(self.wanted, standing_at(Stage::Tag, f, at, end - at))?;
@@ -75,10 +83,14 @@ impl Sweep<'_> {
     }
 
     // Segments from an offset on, up to an RS: a turn takes a segment.
-    fn body(&self, f: u32, start: usize, notes: &mut Notes) -> Result<usize, Unswept>
-        requires { SegmentsDue self.now.message.now self.now.wanted f start notes.old.rows notes.old.numbers.now (plain_row self.now.message.now Stage.Tag f start) }
-        ensures swept { IfOk result (λ next. BodySwept self.now.message.now self.now.wanted.from (segments_kind f) start notes.old.rows (record { next = next; rows = notes.new.rows }) notes.new.numbers.now) }
-        ensures same { notes.new.numbers.ghost_name ≡ notes.old.numbers.ghost_name }
+    fn body<const N: usize>(
+        &self,
+        f: u32,
+        start: usize,
+        notes: &mut Notes<N>,
+    ) -> Result<usize, Unswept>
+        requires { SegmentsDue self.now.message.now self.now.wanted f start notes.old.rows notes.old.numbers (plain_row self.now.message.now Stage.Tag f start) }
+        ensures { IfOk result (λ next. BodySwept self.now.message.now self.now.wanted.from (segments_kind f) start notes.old.rows (record { next = next; rows = notes.new.rows }) notes.new.numbers) }
     {
         let mut at = start;
         loop {
@@ -90,10 +102,14 @@ impl Sweep<'_> {
     }
 
     // 03, 04: six bytes, FS GS US, then segments.
-    pub(crate) fn segments(&self, f: u32, at: usize, notes: &mut Notes) -> Result<usize, Unswept>
-        requires { ((3 ≤ f) × (f ≤ 4)) × StandsAt self.now.message.now self.now.wanted at notes.old.rows notes.old.numbers.now (opening self.now.message.now f at (rule_of widest f)) }
-        ensures swept { IfOk result (λ next. FormatSwept self.now.message.now self.now.wanted.from f at notes.old.rows (record { next = next; rows = notes.new.rows }) notes.new.numbers.now) }
-        ensures same { notes.new.numbers.ghost_name ≡ notes.old.numbers.ghost_name }
+    pub(crate) fn segments<const N: usize>(
+        &self,
+        f: u32,
+        at: usize,
+        notes: &mut Notes<N>,
+    ) -> Result<usize, Unswept>
+        requires { ((3 ≤ f) × (f ≤ 4)) × StandsAt self.now.message.now self.now.wanted at notes.old.rows notes.old.numbers (opening self.now.message.now f at (rule_of widest f)) }
+        ensures { IfOk result (λ next. FormatSwept self.now.message.now self.now.wanted.from f at notes.old.rows (record { next = next; rows = notes.new.rows }) notes.new.numbers) }
     {
         let m = self.message;
         if m.len() - at < RELEASE_LENGTH + 4 {

@@ -1,5 +1,5 @@
 // The quick path over format 07: text up to an RS.
-ghost use Rattle.std.specs.Prelude.{◌≡◌, length, IfOk};
+ghost use Rattle.std.specs.Prelude.{IfOk};
 ghost use Rattle.label.specs.Formats.{widest, rule_of};
 ghost use Rattle.walk.specs.Cursors.{opening};
 ghost use Rattle.sweeps.specs.Quick.{FormatSwept, StandsAt};
@@ -12,10 +12,13 @@ use walk::{Stage, standing_at};
 
 impl Sweep<'_> {
     // 07: text up to an RS.
-    pub(crate) fn text(&self, at: usize, notes: &mut Notes) -> Result<usize, Unswept>
-        requires { StandsAt self.now.message.now self.now.wanted at notes.old.rows notes.old.numbers.now (opening self.now.message.now 7 at (rule_of widest 7)) }
-        ensures swept { IfOk result (λ next. FormatSwept self.now.message.now self.now.wanted.from 7 at notes.old.rows (record { next = next; rows = notes.new.rows }) notes.new.numbers.now) }
-        ensures same { notes.new.numbers.ghost_name ≡ notes.old.numbers.ghost_name }
+    pub(crate) fn text<const N: usize>(
+        &self,
+        at: usize,
+        notes: &mut Notes<N>,
+    ) -> Result<usize, Unswept>
+        requires { StandsAt self.now.message.now self.now.wanted at notes.old.rows notes.old.numbers (opening self.now.message.now 7 at (rule_of widest 7)) }
+        ensures { IfOk result (λ next. FormatSwept self.now.message.now self.now.wanted.from 7 at notes.old.rows (record { next = next; rows = notes.new.rows }) notes.new.numbers) }
     {
         let m = self.message;
         let end = leaves::find_far(m, at, RS);

@@ -46,10 +46,13 @@ impl Sweep<'_> {
     }
 
     // 01: GS, the version, then fields.
-    pub(crate) fn transport(&self, at: usize, notes: &mut Notes) -> Result<usize, Unswept>
-        requires { StandsAt self.now.message.now self.now.wanted at notes.old.rows notes.old.numbers.now (opening self.now.message.now 1 at (rule_of widest 1)) }
-        ensures swept { IfOk result (λ next. FormatSwept self.now.message.now self.now.wanted.from 1 at notes.old.rows (record { next = next; rows = notes.new.rows }) notes.new.numbers.now) }
-        ensures same { notes.new.numbers.ghost_name ≡ notes.old.numbers.ghost_name }
+    pub(crate) fn transport<const N: usize>(
+        &self,
+        at: usize,
+        notes: &mut Notes<N>,
+    ) -> Result<usize, Unswept>
+        requires { StandsAt self.now.message.now self.now.wanted at notes.old.rows notes.old.numbers (opening self.now.message.now 1 at (rule_of widest 1)) }
+        ensures { IfOk result (λ next. FormatSwept self.now.message.now self.now.wanted.from 1 at notes.old.rows (record { next = next; rows = notes.new.rows }) notes.new.numbers) }
     {
         let m = self.message;
         if (at != FIRST) | (m.len() < SHORTEST) {

@@ -6,4 +6,4 @@ use Rattle.reader.proofs.table.read_noting.Goals as goal
 
 pub hand_over-requires : goal.hand_over-requires
 hand_over-requires g c = let args = c.args in
-    handed args.edition args.message.now (g.row.NUMBERS / 4) c.sweep.new.numbers c.in_ok-counts.counts c.in_ok-counts.ensures (omega arith)
+    handed args.edition args.message.now (g.row.NUMBERS / 4) c.sweep.new.notes.numbers c.in_ok-counts.counts c.in_ok-counts.ensures (omega arith)

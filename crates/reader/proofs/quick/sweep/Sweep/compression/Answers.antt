@@ -2,6 +2,7 @@
 use Prim.Native.Nat.{ℕ, ◌+◌}
 use mathlib.Core.Path.{sym, subst}
 use native.Mathlib.Omega.{arith}
+use borrow.Author.Rules.{rules}
 use Rattle.std.proofs.lemmas.Result.{IfOk-weaker}
 use Rattle.envelope.specs.Formats.{count_found}
 use Rattle.walk.specs.declared.Stage.TheVariants.{CountValue}
@@ -10,26 +11,28 @@ use Rattle.sweeps.proofs.CountedLaws.{behind_compression, value_due, compression
 use Rattle.reader.proofs.quick.sweep.Sweep.compression.Goals as goal
 
 pub payload-requires : goal.payload-requires
-payload-requires c = let args = c.args in
+payload-requires g c = let args = c.args in
     let pre = c.requires in
     let s = args.self.now in
-    let value = c.in_ok-count.ensures.swept in
+    let value = c.in_ok-count.ensures in
     let mid = c.value.new.notes in
-    let count = c.in_ok-count.count in
-    subst (λ (n : ℕ). ValueDue s.message.now s.wanted 9 CountValue count n mid.numbers.now) (sym value.0)
-    (value_due s.message.now s.wanted compression_value args.at args.notes.now.rows count mid.numbers.now CountValue (λ end. behind_compression 9 s.message.now args.at end count)
-    pre.framed pre.few (omega arith) value.1)
+    let count = c.in_ok-count.count in (
+      search rules,
+      subst (λ (n : ℕ). ValueDue s.message.now s.wanted 9 CountValue count n mid.numbers) (sym value.0)
+          (value_due s.message.now s.wanted compression_value args.at args.notes.now.rows count mid.numbers CountValue (λ end. behind_compression 9 s.message.now args.at end count)
+          pre.framed pre.few (omega arith) value.1),
+    )
 
-pub returns-clause-swept : goal.returns-clause-swept
-returns-clause-swept c = let args = c.args in
+pub returns : goal.returns
+returns g c = let args = c.args in
     let m = args.self.now.message.now in
     let from = args.self.now.wanted.from in
-    let value = c.in_ok-count.ensures.swept in
+    let value = c.in_ok-count.ensures in
     let count = c.in_ok-count.count in
     let rest = c.payload in
     let new = rest.new.notes in
     IfOk-weaker rest.result _ _
     (λ next so.
-    compression_swept m from args.at args.notes.now.rows count c.value.new.notes.numbers.now new.numbers.now (record { next = next; rows = new.rows }) value.1
-    (subst (λ (n : ℕ). PartSwept m from (count_found 5 m count) 5 (n + 2) (record { next = next; rows = new.rows }) new.numbers.now) value.0 (so 5)))
-    rest.ensures.swept
+    compression_swept m from args.at args.notes.now.rows count c.value.new.notes.numbers new.numbers (record { next = next; rows = new.rows }) value.1
+    (subst (λ (n : ℕ). PartSwept m from (count_found 5 m count) 5 (n + 2) (record { next = next; rows = new.rows }) new.numbers) value.0 (so 5)))
+    rest.ensures

@@ -14,35 +14,34 @@ use Rattle.reader.proofs.quick.sweep.Sweep.later.Goals as goal
 at_end : (m : Bytes) (end b : ℕ) → b ≡ get_or m end 0 → (not (eqb b GS) && not (eqb b US)) ≡ false → (not (eqb (get_or m end 0) GS) && not (eqb (get_or m end 0) US)) ≡ false
 at_end m end b is so = ap (λ b. not (eqb b GS) && not (eqb b US)) (sym is) ∙ so
 
-pub returns-then-b-eq-FS-clause-swept : goal.returns-then-b-eq-FS-clause-swept
-returns-then-b-eq-FS-clause-swept c = let args = c.args in
+pub returns-then-b-eq-FS : goal.returns-then-b-eq-FS
+returns-then-b-eq-FS g c = let args = c.args in
     let s = args.self.now in
     let at = c.loop-b in
-    rowing_last s.message.now c.requires.framed s.wanted.from args.f args.start args.notes.now.rows at.notes.numbers.now at.end at.notes.rows at.invariant.2 (sym at.invariant.1 ∙ c.if-b-eq-FS.true)
+    rowing_last s.message.now c.requires.framed s.wanted.from args.f args.start args.notes.now.rows at.notes.numbers at.end at.notes.rows at.invariant.1 (sym at.invariant.0 ∙ c.if-b-eq-FS.true)
 
 pub run_end-end-requires : goal.run_end-end-requires
 unfolding plain between
-run_end-end-requires c = let args = c.args in
+run_end-end-requires g c = let args = c.args in
     let s = args.self.now in
     let pre = c.requires in
     let at = c.loop-b in (
       refl,
-      parts_more s.message.now pre.framed s.wanted.from args.f args.start args.notes.now.rows at.notes.numbers.now at.end at.notes.rows at.invariant.2 (at_end s.message.now at.end at.b at.invariant.1 c.if-b.false),
+      parts_more s.message.now pre.framed s.wanted.from args.f args.start args.notes.now.rows at.notes.numbers at.end at.notes.rows at.invariant.1 (at_end s.message.now at.end at.b at.invariant.0 c.if-b.false),
     )
 
 pub loop-b-preserved : goal.loop-b-preserved
-loop-b-preserved c = let args = c.args in
+loop-b-preserved g c = let args = c.args in
     let s = args.self.now in
     let m = s.message.now in
     let at = c.loop-b in
     let end = c.run_end-end in
     let new = c.count.new.self in
-    let one = c.in_ok-count.ensures.noted in
+    let one = c.in_ok-count.ensures in
     let row = c.standing_at in (
-      cc,
       refl,
-      subst (λ (n : ℕ). Rowing m s.wanted.from args.f args.start args.notes.now.rows new.numbers.now end.result n) (sym one.counted)
-          (rowing_on m c.requires.framed s.wanted.from args.f args.start args.notes.now.rows at.notes.numbers.now at.end at.notes.rows at.invariant.2 end.result new.numbers.now row.result
-          (at_end m at.end at.b at.invariant.1 c.if-b.false) end.ensures
-          (subst (λ (stage : Stage). row.result ≡ standing stage args.f (at.end + 1) (end.result - (at.end + 1))) (c.stage_behind.ensures ∙ ap stage_behind at.invariant.1) row.ensures) one.noted),
+      subst (λ (n : ℕ). Rowing m s.wanted.from args.f args.start args.notes.now.rows new.numbers end.result n) (sym one.counted)
+          (rowing_on m c.requires.framed s.wanted.from args.f args.start args.notes.now.rows at.notes.numbers at.end at.notes.rows at.invariant.1 end.result new.numbers row.result
+          (at_end m at.end at.b at.invariant.0 c.if-b.false) end.ensures
+          (subst (λ (stage : Stage). row.result ≡ standing stage args.f (at.end + 1) (end.result - (at.end + 1))) (c.stage_behind.ensures ∙ ap stage_behind at.invariant.0) row.ensures) one.noted),
     )

@@ -6,7 +6,7 @@ use Rattle.sweeps.proofs.SegmentRows.{Rowing}
 use Rattle.reader.proofs.quick.sweep.Sweep.later.Given as goal
 
 abbrev pub invariant-loop-b : goal.invariant-loop-b
-invariant-loop-b l = (l.notes.numbers.ghost_name ≡ l.initial.notes.numbers.ghost_name) × (l.b ≡ get_or l.self.message.now l.end 0) × Rowing l.self.message.now l.self.wanted.from l.f l.start l.initial.notes.rows l.notes.numbers.now l.end l.notes.rows
+invariant-loop-b g l = (l.b ≡ get_or l.self.message.now l.end 0) × Rowing l.self.message.now l.self.wanted.from l.f l.start l.initial.notes.rows l.notes.numbers l.end l.notes.rows
 
 abbrev pub decreases-loop-b : goal.decreases-loop-b
-decreases-loop-b l = length l.self.message.now - l.end
+decreases-loop-b g l = length l.self.message.now - l.end

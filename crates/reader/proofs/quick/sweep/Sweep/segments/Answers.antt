@@ -2,6 +2,7 @@
 use Prim.Native.Nat.{ℕ, ◌+◌, ◌-◌}
 use mathlib.Core.Path.{◌≡◌, sym, ap, ◌∙◌, subst}
 use native.Mathlib.Omega.{arith}
+use borrow.Author.Rules.{rules}
 use lib.ListN.{take, drop}
 use Rattle.std.proofs.lemmas.Result.{IfOk-weaker}
 use Rattle.label.specs.Bytes.{capital_or_digit, every}
@@ -13,25 +14,27 @@ use Rattle.sweeps.proofs.SegmentTurns.{release_noted, segments_swept}
 use Rattle.reader.proofs.quick.sweep.Sweep.segments.Goals as goal
 
 pub body-requires : goal.body-requires
-body-requires c = let args = c.args in
+body-requires g c = let args = c.args in
     let s = args.self.now in
     let m = s.message.now in
     let pre = c.requires in
     let new = c.count.new.self in
-    let one = c.in_ok-count.ensures.noted in
+    let one = c.in_ok-count.ensures in
     let row = c.standing_at in
-    let long = c.if-m-at.false in
-    subst (λ (n : ℕ). SegmentsDue m s.wanted args.f (args.at + 6 + 3) n new.numbers.now (plain_row m Tag args.f (args.at + 6 + 3))) (sym one.counted)
-    (record {
-      framed = pre.1.framed;
-      inside = omega (arith, long);
-      known = omega (arith, pre.0.1);
-      few = pre.1.few;
-      noted = release_noted m args.f args.at pre.0.0 pre.0.1 s.wanted.from args.notes.now.rows args.notes.now.numbers.now new.numbers.now row.result (omega (arith, long)) row.ensures one.noted pre.1.noted;
-    })
+    let long = c.if-m-at.false in (
+      search rules,
+      subst (λ (n : ℕ). SegmentsDue m s.wanted args.f (args.at + 6 + 3) n new.numbers (plain_row m Tag args.f (args.at + 6 + 3))) (sym one.counted)
+          (record {
+            framed = pre.1.framed;
+            inside = omega (arith, long);
+            known = omega (arith, pre.0.1);
+            few = pre.1.few;
+            noted = release_noted m args.f args.at pre.0.0 pre.0.1 s.wanted.from args.notes.now.rows args.notes.now.numbers new.numbers row.result (omega (arith, long)) row.ensures one.noted pre.1.noted;
+          }),
+    )
 
-pub returns-clause-swept : goal.returns-clause-swept
-returns-clause-swept c = let args = c.args in
+pub returns : goal.returns
+returns g c = let args = c.args in
     let s = args.self.now in
     let m = s.message.now in
     let pre = c.requires in
@@ -42,7 +45,7 @@ returns-clause-swept c = let args = c.args in
     let six : args.at + 6 - args.at ≡ 6 = omega arith in
     IfOk-weaker body.result _ _
     (λ next so.
-    segments_swept m args.f args.at pre.0.0 pre.0.1 s.wanted.from args.notes.now.rows (record { next = next; rows = new.rows }) new.numbers.now (omega (arith, long))
+    segments_swept m args.f args.at pre.0.0 pre.0.1 s.wanted.from args.notes.now.rows (record { next = next; rows = new.rows }) new.numbers (omega (arith, long))
     (sym (ap (λ n. every capital_or_digit (take n (drop args.at m))) six) ∙ sym all.ensures ∙ c.if-not-all_in.false) (sym c.agree.ensures ∙ c.if-agree-ne3.false)
-    (subst (λ (n : ℕ). BodySwept m s.wanted.from (segments_kind args.f) (args.at + 6 + 3) n (record { next = next; rows = new.rows }) new.numbers.now) c.in_ok-count.ensures.noted.counted so))
-    body.ensures.swept
+    (subst (λ (n : ℕ). BodySwept m s.wanted.from (segments_kind args.f) (args.at + 6 + 3) n (record { next = next; rows = new.rows }) new.numbers) c.in_ok-count.ensures.counted so))
+    body.ensures

@@ -5,14 +5,14 @@ use Rattle.sweeps.specs.Quick.{FormatSwept}
 use Rattle.sweeps.proofs.EnvelopeSweeps.{text_swept}
 use Rattle.reader.proofs.quick.sweep.Sweep.text.Goals as goal
 
-pub returns-clause-swept : goal.returns-clause-swept
-returns-clause-swept c = let args = c.args in
+pub returns : goal.returns
+returns g c = let args = c.args in
     let pre = c.requires in
     let m = args.self.now.message.now in
     let from = args.self.now.wanted.from in
     let end = c.find_far-end in
     let new = c.count.new.self in
-    let one = c.in_ok-count.ensures.noted in
-    subst (λ (n : ℕ). FormatSwept m from 7 args.at args.notes.now.rows (record { next = end.result + 1; rows = n }) new.numbers.now) (sym one.counted)
-    (text_swept m pre.framed from args.at args.notes.now.rows end.result pre.inside end.ensures c.if-m-end.false args.notes.now.numbers.now new.numbers.now c.standing_at.result
+    let one = c.in_ok-count.ensures in
+    subst (λ (n : ℕ). FormatSwept m from 7 args.at args.notes.now.rows (record { next = end.result + 1; rows = n }) new.numbers) (sym one.counted)
+    (text_swept m pre.framed from args.at args.notes.now.rows end.result pre.inside end.ensures c.if-m-end.false args.notes.now.numbers new.numbers c.standing_at.result
     (sym c.all_in.ensures ∙ c.if-not-all_in.false) c.standing_at.ensures pre.noted one.noted)

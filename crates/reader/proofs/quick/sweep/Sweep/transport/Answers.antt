@@ -2,6 +2,7 @@
 use Prim.Native.Nat.{ℕ, ◌+◌}
 use mathlib.Core.Path.{refl, sym, subst}
 use native.Mathlib.Omega.{arith}
+use borrow.Author.Rules.{rules}
 use Rattle.std.proofs.lemmas.Result.{IfOk-weaker}
 use Rattle.label.specs.declared.Version.TheVariants.{Version02, Version96}
 use Rattle.pieces.specs.declared.Kind.TheVariants.{Fields}
@@ -12,45 +13,51 @@ use Rattle.sweeps.proofs.TransportLaws.{begins, fields_inside, version_noted, fo
 use Rattle.reader.proofs.quick.sweep.Sweep.transport.Goals as goal
 
 pub pieces-requires : goal.pieces-requires
-pieces-requires c = let args = c.args in
+pieces-requires g c = let args = c.args in
     let s = args.self.now in
     let m = s.message.now in
     let pre = c.requires in
     let ready = begins m args.at c.if-at-m.false in
     let new = c.count.new.self in
-    let one = c.in_ok-count.ensures.noted in
+    let one = c.in_ok-count.ensures in
     let row = c.standing_at in (
-      refl,
-      subst (λ (n : ℕ). StandsAt m s.wanted (args.at + 3) n new.numbers.now (plain_row m Piece 1 (args.at + 3))) (sym one.counted)
-          (record {
-            framed = pre.framed;
-            inside = fields_inside m args.at args.notes.now.rows ready;
-            few = pre.few;
-            noted = version_noted m args.at args.notes.now.rows ready row.result row.ensures s.wanted.from args.notes.now.numbers.now new.numbers.now one.noted pre.noted;
-          }),
+      search rules,
+      (
+        refl,
+        subst (λ (n : ℕ). StandsAt m s.wanted (args.at + 3) n new.numbers (plain_row m Piece 1 (args.at + 3))) (sym one.counted)
+            (record {
+              framed = pre.framed;
+              inside = fields_inside m args.at args.notes.now.rows ready;
+              few = pre.few;
+              noted = version_noted m args.at args.notes.now.rows ready row.result row.ensures s.wanted.from args.notes.now.numbers new.numbers one.noted pre.noted;
+            }),
+      ),
     )
 
 pub pieces-requires-in-57-eq54 : goal.pieces-requires-in-57-eq54
-pieces-requires-in-57-eq54 c = let args = c.args in
+pieces-requires-in-57-eq54 g c = let args = c.args in
     let s = args.self.now in
     let m = s.message.now in
     let pre = c.requires in
     let ready = begins m args.at c.if-at-m.false in
     let new = c.count.new.self in
-    let one = c.in_ok-count.ensures.noted in
+    let one = c.in_ok-count.ensures in
     let row = c.standing_at in (
-      refl,
-      subst (λ (n : ℕ). StandsAt m s.wanted (args.at + 3) n new.numbers.now (plain_row m Piece 1 (args.at + 3))) (sym one.counted)
-          (record {
-            framed = pre.framed;
-            inside = fields_inside m args.at args.notes.now.rows ready;
-            few = pre.few;
-            noted = version_noted m args.at args.notes.now.rows ready row.result row.ensures s.wanted.from args.notes.now.numbers.now new.numbers.now one.noted pre.noted;
-          }),
+      search rules,
+      (
+        refl,
+        subst (λ (n : ℕ). StandsAt m s.wanted (args.at + 3) n new.numbers (plain_row m Piece 1 (args.at + 3))) (sym one.counted)
+            (record {
+              framed = pre.framed;
+              inside = fields_inside m args.at args.notes.now.rows ready;
+              few = pre.few;
+              noted = version_noted m args.at args.notes.now.rows ready row.result row.ensures s.wanted.from args.notes.now.numbers new.numbers one.noted pre.noted;
+            }),
+      ),
     )
 
-pub returns-in-48-eq50-clause-swept : goal.returns-in-48-eq50-clause-swept
-returns-in-48-eq50-clause-swept c = let args = c.args in
+pub returns-in-48-eq50 : goal.returns-in-48-eq50
+returns-in-48-eq50 g c = let args = c.args in
     let s = args.self.now in
     let m = s.message.now in
     let rows = args.notes.now.rows in
@@ -60,12 +67,12 @@ returns-in-48-eq50-clause-swept c = let args = c.args in
     let new = rest.new.notes in
     IfOk-weaker rest.result _ _
     (λ next so.
-    transport_swept m args.at rows ready s.wanted.from (Fields Version02) new.numbers.now (record { next = next; rows = new.rows }) found
-    (subst (λ (n : ℕ). BodySwept m s.wanted.from (Fields Version02) (args.at + 3) n (record { next = next; rows = new.rows }) new.numbers.now) c.in_ok-count.ensures.noted.counted so))
-    rest.ensures.swept
+    transport_swept m args.at rows ready s.wanted.from (Fields Version02) new.numbers (record { next = next; rows = new.rows }) found
+    (subst (λ (n : ℕ). BodySwept m s.wanted.from (Fields Version02) (args.at + 3) n (record { next = next; rows = new.rows }) new.numbers) c.in_ok-count.ensures.counted so))
+    rest.ensures
 
-pub returns-in-57-eq54-clause-swept : goal.returns-in-57-eq54-clause-swept
-returns-in-57-eq54-clause-swept c = let args = c.args in
+pub returns-in-57-eq54 : goal.returns-in-57-eq54
+returns-in-57-eq54 g c = let args = c.args in
     let s = args.self.now in
     let m = s.message.now in
     let rows = args.notes.now.rows in
@@ -75,6 +82,6 @@ returns-in-57-eq54-clause-swept c = let args = c.args in
     let new = rest.new.notes in
     IfOk-weaker rest.result _ _
     (λ next so.
-    transport_swept m args.at rows ready s.wanted.from (Fields Version96) new.numbers.now (record { next = next; rows = new.rows }) found
-    (subst (λ (n : ℕ). BodySwept m s.wanted.from (Fields Version96) (args.at + 3) n (record { next = next; rows = new.rows }) new.numbers.now) c.in_ok-count.ensures.noted.counted so))
-    rest.ensures.swept
+    transport_swept m args.at rows ready s.wanted.from (Fields Version96) new.numbers (record { next = next; rows = new.rows }) found
+    (subst (λ (n : ℕ). BodySwept m s.wanted.from (Fields Version96) (args.at + 3) n (record { next = next; rows = new.rows }) new.numbers) c.in_ok-count.ensures.counted so))
+    rest.ensures
