@@ -4,10 +4,11 @@ use mathlib.Core.Path.{◌≡◌, refl, sym, ap, ◌∙◌}
 use mathlib.Core.Bool.{Bool, true, false, cond, true≢false}
 use mathlib.Core.List.{List, [], ◌∷◌, ◌++◌}
 use native.Mathlib.Omega.{arith}
-use borrow.Author.Tests.{leb-true, leb-false, le-leb, lt-leb, ltb-true, ltb-false, eqb-true, eq-eqb}
+use borrow.Author.Tests.{le-leb, lt-leb, ltb-true, ltb-false, eqb-true, eq-eqb}
 use lib.ListN.{length, get_or, take, drop, length-drop}
 use lib.Seq.{drop-drop, split_at, drop-length}
 use lib.Dec.{eqb, leb, ltb}
+use Rattle.std.proofs.lemmas.Bool.Decides.{nat_tests}
 use Rattle.label.specs.Bytes.{Bytes, is_empty}
 use Rattle.label.specs.Pieces.{piece_with, pieces, last_is_empty}
 use Rattle.label.proofs.Splitting.{pieces_one, pieces_front, pieces_some, last_of_terminated}
@@ -16,18 +17,7 @@ use Rattle.pieces.proofs.SeekLaws.{seek_free, seek_found, seek_absent}
 
 -- two tests of orders that say the same
 pub leb_same : (a b c d : ℕ) → (a ≤ b → c ≤ d) → (c ≤ d → a ≤ b) → leb a b ≡ leb c d
-leb_same a b c d there back = by (leb a b) refl
-  where
-    by : (t : Bool) → leb a b ≡ t → t ≡ leb c d
-    by true h = sym (le-leb c d (there (leb-true a b h)))
-    by false h = sym (lt-leb c d (not_there (leb-false a b h)))
-      where
-        not_there : b < a → d < c
-        not_there over = by_order (leb c d) refl
-          where
-            by_order : (t : Bool) → leb c d ≡ t → d < c
-            by_order true g = let k = back (leb-true c d g) in absurd (omega arith)
-            by_order false g = leb-false c d g
+leb_same a b c d there back = grind (arith, nat_tests)
 
 -- the first piece, and the others where a separator follows
 pub pieces_by_seek : (c : ℕ) (bs : Bytes) → pieces c bs ≡ take (seek c bs) bs ∷ cond (ltb (seek c bs) (length bs)) (pieces c (drop (seek c bs + 1) bs)) []

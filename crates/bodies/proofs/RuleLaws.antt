@@ -4,9 +4,11 @@ use mathlib.Core.Path.{◌≡◌, refl, sym, ap, ◌∙◌}
 use mathlib.Core.Bool.{Bool, true, false, not, ◌&&◌, ◌||◌, cond, true≢false}
 use mathlib.Core.List.{List, [], ◌∷◌, ◌++◌, map, append-nil}
 use native.Mathlib.Omega.{arith}
-use borrow.Author.Tests.{leb-true, eqb-true, eqb-false, eq-eqb, ne_eqb}
+use borrow.Author.Tests.{leb-true, eqb-true, eq-eqb, ne_eqb}
 use lib.ListN.{length, take, drop}
 use lib.Dec.{eqb, leb, ltb, eqb-suc-suc}
+use Rattle.std.proofs.lemmas.Bool.Decides.{nat_tests}
+use Rattle.std.proofs.lemmas.Bool.{and_parts}
 use Rattle.label.specs.Bytes.{Bytes, FS, GS, US, digit, capital, capital_or_digit, every, is_empty}
 use Rattle.label.specs.Limits.{long_as}
 use Rattle.label.specs.Pieces.{piece_with, pieces, last_is_empty, without_last}
@@ -14,7 +16,7 @@ use Rattle.label.specs.declared.Version.{Version}
 use Rattle.label.specs.Segments.{Segment, Element, tag, tag03, tagged}
 use Rattle.label.specs.Fields.{least_fields, most_fields, field, fields_from, transport}
 use Rattle.label.specs.ReadEnvelope.{segments_in, are_segments}
-use Rattle.label.proofs.Tests.{both, free, free_of, Without, between_without, without_or}
+use Rattle.label.proofs.Tests.{free, free_of, Without, between_without, without_or}
 use Rattle.label.proofs.Splitting.{joined, joined_pieces, pieces_some, pieces_one, last_of_terminated, without_last_of_terminated}
 use Rattle.label.proofs.SegmentLaws.{segment_cut}
 use Rattle.leaves.specs.Seek.{seek, tally_of}
@@ -50,11 +52,7 @@ last_past (suc k) (p ∷ []) h = ap (λ t. t || not (is_empty p)) (eq-eqb 1 (suc
 last_past (suc k) (p ∷ (q ∷ ps)) h = ap (λ t. t || not (last_is_empty (q ∷ ps))) (eqb-suc-suc (suc (length ps)) k) ∙ last_past k (q ∷ ps) (omega arith)
 
 eqb_same : (a b c d : ℕ) → (a ≡ b → c ≡ d) → (c ≡ d → a ≡ b) → eqb a b ≡ eqb c d
-eqb_same a b c d there back = by (eqb a b) refl
-  where
-    by : (t : Bool) → eqb a b ≡ t → t ≡ eqb c d
-    by true h = sym (eq-eqb c d (there (eqb-true a b h)))
-    by false h = sym (ne_eqb c d (λ same. eqb-false a b h (back same)))
+eqb_same a b c d there back = grind (arith, nat_tests)
 
 pub fields_law : (v : Version) (body : Bytes) → fields_of (field v) (most_fields v) (pieces GS body) body ≡ transport v (pieces GS body)
 unfolding transport
@@ -91,11 +89,11 @@ capital_or_digit_without = without_or US capital digit (between_without 0x41 0x5
 
 pub tag_no_us : NoUs tag
 unfolding tag
-tag_no_us bs h = free_of US capital_or_digit capital_or_digit_without bs (both (long_as (record { 0 = 2; 1 = 3 }) bs && every capital (take 1 bs)) (every capital_or_digit bs) h).right
+tag_no_us bs h = free_of US capital_or_digit capital_or_digit_without bs (and_parts (long_as (record { 0 = 2; 1 = 3 }) bs && every capital (take 1 bs)) (every capital_or_digit bs) h).1
 
 pub tag03_no_us : NoUs tag03
 unfolding tag03
-tag03_no_us bs h = tag_no_us bs (both (tag bs) _ h).left
+tag03_no_us bs h = tag_no_us bs (and_parts (tag bs) _ h).0
 
 first_tagged : (is_tag : Bytes → Bool) (e : Bytes) (later : List Element) → NoUs is_tag → tagged is_tag (pieces US e ∷ later) ≡ is_tag e
 unfolding tagged

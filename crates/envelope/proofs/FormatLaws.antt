@@ -9,6 +9,8 @@ use borrow.Author.Tests.{le-leb, lt-leb, ltb-true, ltb-false, lt-ltb, le-ltb, eq
 use lib.ListN.{length, get_or, take, drop, take-append-drop, length-take, length-drop}
 use lib.Seq.{drop-drop, length-take-le}
 use lib.Dec.{leb, ltb, eqb, eqb-zero-suc, eqb-suc-suc}
+use Rattle.std.proofs.lemmas.Bool.{and_parts, cond-true, cond-false}
+use Rattle.std.specs.Cmp.Derive.{both_true}
 use Rattle.label.specs.declared.Reason.{Reason}
 use Rattle.label.specs.declared.Reason.TheVariants.{BadFormatHeader, PayloadDoesNotFit, ByteNotPermitted, BodyBreaksRules, NoRecordSeparator}
 use Rattle.label.specs.Bytes.{Bytes, ascii, FS, GS, RS, US, plain, digit, capital_or_digit, every, is_empty}
@@ -25,7 +27,6 @@ use Rattle.label.specs.Layout.{mark}
 use Rattle.label.specs.Written.{body_row, piece_row, parts, value_parts, rowed, value_row}
 use Rattle.label.specs.ReadEnvelope.{Step, closed, whole, refuse, must, opened, valued_at, valued, broken, body_at, bodied, plain_or_gs, segment_byte, version_of, read_fields, read_transport, read_rest, segments_in, are_segments, read_segments, read_elements, read_text, read_payload, read_values, read_count, read_counted}
 use Rattle.label.specs.ReadMessage.{agreement}
-use Rattle.label.proofs.Tests.{both, and_both, cond_yes, cond_no}
 use Rattle.label.proofs.EnvelopeSound.{version_so}
 use Rattle.label.proofs.ReadingSound.{begins}
 use Rattle.leaves.specs.Seek.{seek, tally_of}
@@ -103,11 +104,11 @@ module _ (k : Kind) (before : ℕ) (m : Bytes) (at : ℕ) (made : Bytes → Enve
 opened_with : (t : Bool) (hs bs : Bytes) (next : Bytes → Step) → opened hs bs next ≡ cond (eqb (agreement hs bs) (length hs)) (next (drop (length hs) bs)) (refuse BadFormatHeader)
     → must t BadFormatHeader (opened hs bs next) ≡ cond (eqb (cond t (suc (agreement hs bs)) 0) (suc (length hs))) (next (drop (length hs) bs)) (refuse BadFormatHeader)
 opened_with true hs bs next later = later ∙ ap (λ t. cond t (next (drop (length hs) bs)) (refuse BadFormatHeader)) (sym (eqb-suc-suc (agreement hs bs) (length hs)))
-opened_with false hs bs next later = sym (cond_no _ _ _ (eqb-zero-suc (length hs)))
+opened_with false hs bs next later = sym (cond-false _ _ _ (eqb-zero-suc (length hs)))
 
 opened_by : (hs bs : Bytes) (next : Bytes → Step) → opened hs bs next ≡ cond (eqb (agreement hs bs) (length hs)) (next (drop (length hs) bs)) (refuse BadFormatHeader)
 opened_by [] bs next = refl
-opened_by (h ∷ hs) [] next = sym (cond_no _ _ _ (eqb-zero-suc (length hs)))
+opened_by (h ∷ hs) [] next = sym (cond-false _ _ _ (eqb-zero-suc (length hs)))
 opened_by (h ∷ hs) (b ∷ bs) next = opened_with (eqb b h) hs bs next (opened_by hs bs next)
 
 -- a header that bytes begin with, and then what is found behind it
@@ -160,8 +161,8 @@ shown_rest f m at =
 segment_rows : (f : ℕ) (header : Bytes) (is_tag : Bytes → Bool) (body : Bytes) → are_segments is_tag body ≡ true → row_count (segments f header (segments_in body)) ≡ 2 + (tally_of FS body + tally_of GS body + tally_of US body)
 unfolding parts are_segments
 segment_rows f header is_tag body kept =
-    let k = both (last_is_empty (pieces FS body) && not (is_empty (segments_in body))) (every (tagged is_tag) (segments_in body)) kept in
-    let ends = (both (last_is_empty (pieces FS body)) (not (is_empty (segments_in body))) k.left).left in
+    let k = and_parts (last_is_empty (pieces FS body) && not (is_empty (segments_in body))) (every (tagged is_tag) (segments_in body)) kept in
+    let ends = (and_parts (last_is_empty (pieces FS body)) (not (is_empty (segments_in body))) k.0).0 in
     omega (arith, rows_segments f body ends)
 
 -- six bytes are there, and of the class
@@ -299,7 +300,7 @@ module _ (least most : ℕ) (class : ℕ → Bool) (m : Bytes) (at : ℕ) (insid
       n = seek GS bs
 
       refused_there : (end : ℕ) → end ≡ length m → no_envelope BadFormatHeader ≡ after_value m end there
-      refused_there end is = sym (cond_no _ _ _ (le-ltb end (length m) (omega arith)))
+      refused_there end is = sym (cond-false _ _ _ (le-ltb end (length m) (omega arith)))
 
       by_test : (a w : Bool) → (leb least n && leb n most) ≡ a → every class (take n bs) ≡ w → n < length bs
           → shown m (must (a && w) BadFormatHeader (next (take n bs) (drop (n + 1) bs))) ≡ after_value m (cond (true && a && w) (at + n) (length m)) there
@@ -309,8 +310,8 @@ module _ (least most : ℕ) (class : ℕ → Bool) (m : Bytes) (at : ℕ) (insid
           let first : at + n - at ≡ n = omega arith in
           let behind : at + (n + 1) ≡ at + n + 1 = omega arith in
           (λ i. shown m (next (take (sym first i) bs) ((drop-drop (n + 1) at m ∙ ap (λ k. drop k m) behind) i)))
-          ∙ then (at + n) (sym (cond_yes _ _ _ (and_both (and_both (lt-ltb n (length bs) here) p) q))) less
-          ∙ sym (cond_yes _ _ _ (lt-ltb (at + n) (length m) less))
+          ∙ then (at + n) (sym (cond-true _ _ _ (both_true (both_true (lt-ltb n (length bs) here) p) q))) less
+          ∙ sym (cond-true _ _ _ (lt-ltb (at + n) (length m) less))
       by_test true false p q here = refused_there (length m) refl
       by_test false w p q here = refused_there (length m) refl
 

@@ -8,15 +8,16 @@ use native.Mathlib.Omega.{arith}
 use borrow.Author.Tests.{leb-true, ltb-true, ltb-false, lt-ltb}
 use lib.ListN.{length, get_or, drop, length-drop}
 use lib.Dec.{leb, ltb}
+use Rattle.std.proofs.lemmas.Bool.{and_parts, cond-true}
+use Rattle.std.specs.Cmp.Derive.{both_true}
+use Rattle.std.proofs.lemmas.List.{drop_more, take_rest}
 use Rattle.label.specs.declared.Reason.TheVariants.{NoIndicator}
 use Rattle.label.specs.Bytes.{Bytes, digit, between}
 use Rattle.label.specs.Values.{value}
 use Rattle.label.specs.declared.Edition.{Edition}
 use Rattle.label.specs.Formats.{rule_of}
 use Rattle.label.specs.ReadEnvelope.{refuse, must, read_by, read_envelope}
-use Rattle.label.proofs.Tests.{both, and_both, cond_yes}
 use Rattle.leaves.specs.Classes.{digit_of}
-use Rattle.leaves.proofs.Turns.{drop_step, take_rest}
 use Rattle.envelope.specs.Headers.{if_below, no_indicator, indicator_of}
 
 -- a number if a test holds
@@ -42,8 +43,8 @@ is_below limit n f some = let is = some_if (ltb n limit) n f some in (is.1, ltb-
 value_small : (a b : ℕ) → digit a ≡ true → digit b ≡ true → value (a ∷ b ∷ []) < 100
 unfolding digit between
 value_small a b p q =
-    let g = leb-true a 0x39 (both (leb 0x30 a) (leb a 0x39) p).right in
-    let h = leb-true b 0x39 (both (leb 0x30 b) (leb b 0x39) q).right in
+    let g = leb-true a 0x39 (and_parts (leb 0x30 a) (leb a 0x39) p).1 in
+    let h = leb-true b 0x39 (and_parts (leb 0x30 b) (leb b 0x39) q).1 in
     omega arith
 
 pub indicator_made : (bs : Bytes) (x y : ℕ) → 2 ≤ length bs → Some x ≡ digit_of (get_or bs 0 0) → Some y ≡ digit_of (get_or bs 1 0) → Some (x * 10 + y) ≡ if_below no_indicator (indicator_of bs)
@@ -54,7 +55,7 @@ indicator_made (a ∷ (b ∷ bs)) x y long ten unit =
     let units = some_if (digit b) (b - 0x30) y unit in
     let small = value_small a b tens.0 units.0 in
     let is : value (a ∷ b ∷ []) ≡ x * 10 + y = omega (arith, tens.1, units.1) in
-    sym (ap (if_below no_indicator) (cond_yes _ _ _ (and_both tens.0 units.0) ∙ is) ∙ cond_yes _ _ _ (lt-ltb (x * 10 + y) no_indicator (omega arith)))
+    sym (ap (if_below no_indicator) (cond-true _ _ _ (both_true tens.0 units.0) ∙ is) ∙ cond-true _ _ _ (lt-ltb (x * 10 + y) no_indicator (omega arith)))
 
 pub ruleset indicator_steps = (take_rest, indicator_made)
 
@@ -62,8 +63,8 @@ pub ruleset indicator_steps = (take_rest, indicator_made)
 pub drop_two : (m : Bytes) (at : ℕ) → at + 2 ≤ length m → drop at m ≡ get_or m at 0 ∷ (get_or m (at + 1) 0 ∷ drop (at + 2) m)
 drop_two m at h =
     let two : at + 1 + 1 ≡ at + 2 = omega arith in
-    drop_step m at (omega arith)
-    ∙ ap (λ r. get_or m at 0 ∷ r) (drop_step m (at + 1) (omega arith) ∙ ap (λ n. get_or m (at + 1) 0 ∷ drop n m) two)
+    drop_more m at 0 (omega arith)
+    ∙ ap (λ r. get_or m at 0 ∷ r) (drop_more m (at + 1) 0 (omega arith) ∙ ap (λ n. get_or m (at + 1) 0 ∷ drop n m) two)
 
 -- the reading of an envelope, by its indicator's number
 

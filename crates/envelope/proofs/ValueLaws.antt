@@ -6,11 +6,12 @@ use mathlib.Core.Bool.{Bool, true, false, not, ◌&&◌, ◌||◌, cond}
 use mathlib.Core.List.{[], ◌∷◌}
 use native.Mathlib.Omega.{arith}
 use native.Mathlib.Nat.{pow-le-pow_right}
-use borrow.Author.Tests.{le-leb, lt-leb, lt-ltb, ltb-true, ltb-false}
+use borrow.Author.Tests.{lt-ltb}
 use lib.ListN.{length, take, drop, length-drop}
 use lib.Dec.{leb, ltb, eqb, eqb-zero-suc, eqb-suc-suc}
 use lib.Pointwise.{pointwise}
 use Rattle.std.proofs.lemmas.Cmp.{nat_eq_equiv}
+use Rattle.std.proofs.lemmas.Bool.Decides.{nat_tests}
 use Rattle.label.specs.Bytes.{Bytes, GS, every}
 use Rattle.label.specs.ReadMessage.{agreement}
 use Rattle.label.proofs.Places.{agreement_inside}
@@ -21,11 +22,6 @@ use Rattle.envelope.specs.Formats.{after_value}
 use Rattle.label.specs.declared.Reason.TheVariants.{BadFormatHeader}
 
 -- Header values
-
-within_by : (least most n : ℕ) (s t : Bool) → ltb n least ≡ s → ltb most n ≡ t → (leb least n && leb n most) ≡ not (s || t)
-within_by least most n true t p q = ap (λ x. x && leb n most) (lt-leb least n (ltb-true n least p))
-within_by least most n false true p q = (λ i. le-leb least n (ltb-false n least p) i && lt-leb n most (ltb-true most n q) i)
-within_by least most n false false p q = (λ i. le-leb least n (ltb-false n least p) i && le-leb n most (ltb-false most n q) i)
 
 module _ (least most : ℕ) (class : ℕ → Bool) (m : Bytes) (at end : ℕ) (inside : at ≤ length m) (is : end ≡ at + seek GS (drop at m)) where
   first : end - at ≡ seek GS (drop at m)
@@ -38,7 +34,7 @@ module _ (least most : ℕ) (class : ℕ → Bool) (m : Bytes) (at end : ℕ) (i
       sym (λ i. cond (p i && (ap (λ n. leb least n && leb n most) (sym first) ∙ q) i && (ap (λ n. every class (take n (drop at m))) (sym first) ∙ r) i) (sym is i) (length m))
 
   size_by : (t : Bool) → (ltb (end - at) least || ltb most (end - at)) ≡ t → (leb least (end - at) && leb (end - at) most) ≡ not t
-  size_by t h = within_by least most (end - at) (ltb (end - at) least) (ltb most (end - at)) refl refl ∙ ap not h
+  size_by t h = grind (arith, nat_tests)
 
   here : end < length m → ltb (seek GS (drop at m)) (length (drop at m)) ≡ true
   here some = let long = length-drop at m in lt-ltb (seek GS (drop at m)) (length (drop at m)) (omega arith)
@@ -60,12 +56,9 @@ found_after m end next then found = by (ltb end (length m)) found
 abbrev pub Bounded : ℕ → ℕ → Type 0
 Bounded n i = n + 23 ≤ 24 * 10 ^ i
 
-power_small : (i : ℕ) → i ≤ 14 → 10 ^ i ≤ 100000000000000
-power_small i h = pow-le-pow_right {n = 10} (omega arith) {i = i} {j = 14} h
-
 -- one more byte, of fifteen at the most
 pub count_small : (n i w : ℕ) → i ≤ 14 → w ≤ 207 → Bounded n i → n * 10 + w < 10000000000000000000
-count_small n i w h few bounded = omega (arith, power_small i h)
+count_small n i w h few bounded = omega (arith, pow-le-pow_right {n = 10} (omega arith) {i = i} {j = 14} h)
 
 -- What a header that was found says of the message's length
 

@@ -8,6 +8,7 @@ use native.Mathlib.Omega.{arith}
 use borrow.Author.Tests.{lt-ltb, le-ltb}
 use lib.ListN.{length}
 use lib.Dec.{ltb}
+use Rattle.std.proofs.lemmas.Bool.{cond-true, cond-false}
 use Rattle.label.specs.declared.Counts.{Counts}
 use Rattle.label.specs.declared.Refusal.{Refusal}
 use Rattle.label.specs.declared.Reason.TheVariants.{NoRoom}
@@ -16,7 +17,6 @@ use Rattle.label.specs.Bytes.{Bytes}
 use Rattle.label.specs.Message.{rows_of, numbers_of}
 use Rattle.label.specs.ReadMessage.{Outcome, read, refused, reading}
 use Rattle.label.specs.Answer.{accepted, refusal, room_of, answered, read_answer, overlaid, filled, table_after, numbers_read}
-use Rattle.label.proofs.Tests.{cond_yes, cond_no}
 use Rattle.judge.specs.Shown.{judged_as}
 use Rattle.judge.proofs.Judged.{rows_judged}
 use Rattle.exact.specs.Tables.{Room}
@@ -62,12 +62,12 @@ module _ (edition : Edition) (m : Bytes) (table : List ℕ) where
     pub lacks_room : room_of table < counts.rows → Told edition m table table (refusal NoRoom 0)
     lacks_room short =
         let less = lt-ltb (room_of table) counts.rows short in
-        record { answered_so = sym (cond_yes _ _ _ less) ∙ is_accepted.answered_so; filled_so = sym (cond_yes _ _ _ less) ∙ is_accepted.filled_so }
+        record { answered_so = sym (cond-true _ _ _ less) ∙ is_accepted.answered_so; filled_so = sym (cond-true _ _ _ less) ∙ is_accepted.filled_so }
 
     pub has_room : counts.rows ≤ room_of table → Told edition m table (overlaid (numbers_read (reading edition m)) table) (accepted counts.envelopes counts.rows)
     has_room enough =
         let fits = le-ltb (room_of table) counts.rows enough in
-        record { answered_so = sym (cond_no _ _ _ fits) ∙ is_accepted.answered_so; filled_so = sym (cond_no _ _ _ fits) ∙ is_accepted.filled_so }
+        record { answered_so = sym (cond-false _ _ _ fits) ∙ is_accepted.answered_so; filled_so = sym (cond-false _ _ _ fits) ∙ is_accepted.filled_so }
 
   pub is_refused : (r : Refusal) → judged_as (reading edition m) ≡ Err r → Told edition m table table (refusal r.reason r.place)
   is_refused r says = told edition m table table _ (refused_by (reading edition m) r table says)

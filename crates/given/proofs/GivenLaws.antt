@@ -7,13 +7,13 @@ use native.Mathlib.Omega.{arith}
 use borrow.Author.Tests.{leb-true, le-leb, lt-leb, eqb-true, eq-eqb, ne_eqb}
 use lib.ListN.{length, get_or}
 use lib.Dec.{leb, ltb, eqb}
+use Rattle.std.proofs.lemmas.Bool.{and_parts, cond-true}
 use Rattle.label.specs.Bytes.{Bytes, every}
 use Rattle.label.specs.Limits.{most_rows, row_width}
 use Rattle.label.specs.Layout.{Row}
 use Rattle.label.specs.Writing.{rows_in, ordinals_in, inside, rows_stand, same_ordinals}
 use Rattle.label.specs.Counting.{row_from, kinds_of, raised, counting_on, by_counting}
 use Rattle.label.proofs.Ordinals.{raised_by_test}
-use Rattle.label.proofs.Tests.{both, cond_yes}
 use Rattle.std.specs.Prelude.{Option, Some}
 use Rattle.std.specs.Int.{from_bool}
 use Rattle.std.specs.Option.{unwrap_or, option_map}
@@ -63,7 +63,7 @@ no_ordinal_left (k ∷ (f ∷ (s ∷ (l ∷ (o ∷ ns))))) short = absurd (omega
 -- a row at an index, or none; and a row of numbers that are just one
 module _ (ns : List ℕ) (at : ℕ) where
   pub row_at_some : at + row_width ≤ length ns → row_at ns at ≡ Some (row_from ns at)
-  row_at_some room = cond_yes _ _ _ (le-leb (at + row_width) (length ns) room)
+  row_at_some room = cond-true _ _ _ (le-leb (at + row_width) (length ns) room)
 
 pub row_there : (ns : List ℕ) (at : ℕ) → at + row_width ≤ length ns → row_or_none ns at ≡ row_from ns at
 row_there ns at room = ap (λ (o : Option Row). unwrap_or o no_row) (row_at_some ns at room)
@@ -124,9 +124,9 @@ module _ (held : Bytes) (ns : List ℕ) where
   pub stands_so : rows_stand held ns ≡ true → StandsSo held ns
   unfolding rows_stand
   stands_so h =
-      let k = both _ _ h in
-      let l = both _ _ k.left in
-      record { whole = eqb-true (length ns % row_width) 0 l.left; few = leb-true (length ns / row_width) most_rows l.right; lie = k.right }
+      let k = and_parts _ _ h in
+      let l = and_parts _ _ k.0 in
+      record { whole = eqb-true (length ns % row_width) 0 l.0; few = leb-true (length ns / row_width) most_rows l.1; lie = k.1 }
 
   pub not_whole : (length ns % row_width ≡ 0 → ⊥) → false ≡ rows_stand held ns
   unfolding rows_stand

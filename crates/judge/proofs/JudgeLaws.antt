@@ -8,6 +8,7 @@ use native.Mathlib.Omega.{arith}
 use borrow.Author.Tests.{leb-true, lt-ltb, le-ltb}
 use lib.ListN.{length, drop, length-drop}
 use lib.Dec.{leb, ltb}
+use Rattle.std.proofs.lemmas.Bool.{cond-true, cond-false}
 use Rattle.label.specs.declared.Reason.TheVariants.{TooLong, NoMessageHeader, TooManyRows}
 use Rattle.label.specs.declared.Counts.{Counts}
 use Rattle.label.specs.declared.Refusal.{Refusal}
@@ -23,7 +24,6 @@ use Rattle.label.proofs.Walk.{bound_is_enough}
 use Rattle.label.proofs.Places.{agreement_inside}
 use Rattle.label.specs.Answer.{Reading}
 use Rattle.label.proofs.RowItems.{rows_items}
-use Rattle.label.proofs.Tests.{cond_yes, cond_no}
 use Rattle.envelope.proofs.RowCounts.{items_append}
 use Rattle.judge.specs.Shown.{judged_as, total_rows, tallied, limited}
 
@@ -59,26 +59,26 @@ limited_law (read es) = by (ltb most_rows (length (rows_of es))) refl
     envelopes = omega arith
 
     by : (t : Bool) → ltb most_rows (length (rows_of es)) ≡ t → limited (tallied 0 0 (read es)) ≡ judged_as (cond t (refused TooManyRows 0) (read es))
-    by true many = cond_yes _ _ _ (ap (ltb most_rows) rows ∙ many)
-    by false few = cond_no _ _ _ (ap (ltb most_rows) rows ∙ few) ∙ (λ i. Ok (record { envelopes = envelopes i; rows = rows i }))
+    by true many = cond-true _ _ _ (ap (ltb most_rows) rows ∙ many)
+    by false few = cond-false _ _ _ (ap (ltb most_rows) rows ∙ few) ∙ (λ i. Ok (record { envelopes = envelopes i; rows = rows i }))
 limited_law (refused r p) = refl
 
 pub judge_long : (edition : Edition) (m : Bytes) → longest < length m → Err (record { reason = TooLong; place = longest }) ≡ judged_as (reading edition m)
 unfolding reading
-judge_long edition m long = sym (ap judged_as (cond_yes _ _ _ (lt-ltb longest (length m) long)))
+judge_long edition m long = sym (ap judged_as (cond-true _ _ _ (lt-ltb longest (length m) long)))
 
 pub judge_header : (edition : Edition) (m : Bytes) (n : ℕ) → length m ≤ longest → n ≡ agreement header m → n < 4 → Err (record { reason = NoMessageHeader; place = n }) ≡ judged_as (reading edition m)
 unfolding reading
 judge_header edition m n short is differs =
     ap (λ p. Err (record { reason = NoMessageHeader; place = p })) is
-    ∙ sym (ap judged_as (cond_no _ _ _ (le-ltb longest (length m) short) ∙ cond_yes _ _ _ (lt-ltb (agreement header m) 4 (omega arith))))
+    ∙ sym (ap judged_as (cond-false _ _ _ (le-ltb longest (length m) short) ∙ cond-true _ _ _ (lt-ltb (agreement header m) 4 (omega arith))))
 
 pub judge_walk : (edition : Edition) (m : Bytes) → length m ≤ longest → 4 ≤ agreement header m → 4 ≤ length m → limited (tallied 0 0 (unbounded_walk edition m true (drop 4 m))) ≡ judged_as (reading edition m)
 unfolding reading unbounded_walk
 judge_walk edition m short agrees long =
     limited_law (walk edition m (suc (length (drop 4 m))) true (drop 4 m))
     ∙ ap (λ o. judged_as (within_rows o)) (bound_is_enough edition m (suc (length (drop 4 m))) (enough m) true (drop 4 m) (omega arith) (omega (arith, length-drop 4 m)))
-    ∙ sym (ap judged_as (cond_no _ _ _ (le-ltb longest (length m) short) ∙ cond_no _ _ _ (le-ltb (agreement header m) 4 agrees)))
+    ∙ sym (ap judged_as (cond-false _ _ _ (le-ltb longest (length m) short) ∙ cond-false _ _ _ (le-ltb (agreement header m) 4 agrees)))
 
 -- the same of what the walk answers, behind a header that is there
 
@@ -93,10 +93,10 @@ judge_refused edition m r short headed is = judge_comes edition m (Err r) short 
 
 pub judge_many : (edition : Edition) (m : Bytes) (counts : Counts) → length m ≤ longest → leb (length header) (agreement header m) ≡ true → Ok counts ≡ tallied 0 0 (unbounded_walk edition m true (drop (length header) m)) → most_rows < counts.rows
     → Err (record { reason = TooManyRows; place = 0 }) ≡ judged_as (reading edition m)
-judge_many edition m counts short headed is many = sym (cond_yes _ _ _ (lt-ltb most_rows counts.rows many)) ∙ judge_comes edition m (Ok counts) short headed is
+judge_many edition m counts short headed is many = sym (cond-true _ _ _ (lt-ltb most_rows counts.rows many)) ∙ judge_comes edition m (Ok counts) short headed is
 
 pub judge_few : (edition : Edition) (m : Bytes) (counts : Counts) → length m ≤ longest → leb (length header) (agreement header m) ≡ true → Ok counts ≡ tallied 0 0 (unbounded_walk edition m true (drop (length header) m)) → counts.rows ≤ most_rows
     → Ok counts ≡ judged_as (reading edition m)
-judge_few edition m counts short headed is few = sym (cond_no _ _ _ (le-ltb most_rows counts.rows few)) ∙ judge_comes edition m (Ok counts) short headed is
+judge_few edition m counts short headed is few = sym (cond-false _ _ _ (le-ltb most_rows counts.rows few)) ∙ judge_comes edition m (Ok counts) short headed is
 
 pub ruleset judge_steps = (judge_long, judge_header, judge_refused, judge_many, judge_few)

@@ -6,9 +6,12 @@ use mathlib.Core.Bool.{Bool, true, false, cond}
 use mathlib.Core.List.{[], ◌∷◌, ◌++◌}
 use native.Mathlib.Omega.{arith}
 use borrow.Author.Tests.{ne_eqb, leb-true, leb-false, le-leb, lt-leb}
+use native.Mathlib.Nat.{add-zero}
 use lib.ListN.{length, get_or, drop, length-append, length-drop}
 use lib.Seq.{drop-drop, drop-append-add}
 use lib.Dec.{leb, eqb}
+use Rattle.std.proofs.lemmas.Bool.{cond-true, cond-false}
+use Rattle.std.proofs.lemmas.List.{drop_more, drop_all}
 use Rattle.label.specs.declared.Counts.{Counts}
 use Rattle.label.specs.declared.Refusal.{Refusal}
 use Rattle.label.specs.declared.Reason.TheVariants.{NoTrailer, BytesAfterTrailer}
@@ -21,8 +24,6 @@ use Rattle.label.specs.ReadEnvelope.{Step, closed, whole, refuse, refuse_at, rea
 use Rattle.label.specs.ReadMessage.{Outcome, read, refused, place_of, and_then, after_trailer, at_boundary, follow, unbounded_walk}
 use Rattle.label.proofs.EnvelopeSound.{StepSo, step_so}
 use Rattle.label.proofs.Walk.{one_step_then_walk}
-use Rattle.label.proofs.Tests.{cond_yes, cond_no}
-use Rattle.leaves.proofs.Turns.{drop_step, drop_past}
 use Rattle.envelope.specs.declared.Found.TheVariants.{Closed, Whole}
 use Rattle.envelope.specs.Shown.{row_count, shown}
 use Rattle.judge.specs.declared.State.{State}
@@ -34,20 +35,17 @@ use Rattle.judge.proofs.RowBounds.{few_rows_lem}
 
 module _ (m : Bytes) (at : ℕ) (counts : Counts) where
   pub boundary_next : at < length m → eqb (get_or m at 0) EOT ≡ false → go (record { at = at; counts = counts }) ≡ boundary_turn m at counts
-  boundary_next inside other = sym (cond_no _ _ _ (lt-leb (length m) at inside) ∙ cond_no _ _ _ other)
+  boundary_next inside other = sym (cond-false _ _ _ (lt-leb (length m) at inside) ∙ cond-false _ _ _ other)
 
   pub boundary_last : at < length m → eqb (get_or m at 0) EOT ≡ true → length m ≤ at + 1 → done counts ≡ boundary_turn m at counts
-  boundary_last inside is past = sym (cond_no _ _ _ (lt-leb (length m) at inside) ∙ cond_yes _ _ _ is ∙ cond_yes _ _ _ (le-leb (length m) (at + 1) past))
+  boundary_last inside is past = sym (cond-false _ _ _ (lt-leb (length m) at inside) ∙ cond-true _ _ _ is ∙ cond-true _ _ _ (le-leb (length m) (at + 1) past))
 
   trailer_law : (edition : Edition) (rest : Bytes) → length rest ≡ length m - (at + 1) → at < length m
       → result_after edition m (cond (leb (length m) (at + 1)) (done counts) (Err (record { reason = BytesAfterTrailer; place = at + 1 })))
       ≡ tallied counts.envelopes counts.rows (after_trailer m rest)
-  trailer_law edition [] long inside = ap (result_after edition m) (cond_yes _ _ _ (le-leb (length m) (at + 1) (omega arith))) ∙ (λ i. Ok (record { envelopes = none_more counts.envelopes i; rows = none_more counts.rows i }))
-    where
-      none_more : (n : ℕ) → n ≡ n + 0
-      none_more n = omega arith
+  trailer_law edition [] long inside = ap (result_after edition m) (cond-true _ _ _ (le-leb (length m) (at + 1) (omega arith))) ∙ (λ i. Ok (record { envelopes = sym (add-zero counts.envelopes) i; rows = sym (add-zero counts.rows) i }))
   trailer_law edition (b ∷ rest) long inside =
-      ap (result_after edition m) (cond_no _ _ _ (lt-leb (length m) (at + 1) (omega arith))) ∙ ap (λ p. Err (record { reason = BytesAfterTrailer; place = p })) place
+      ap (result_after edition m) (cond-false _ _ _ (lt-leb (length m) (at + 1) (omega arith))) ∙ ap (λ p. Err (record { reason = BytesAfterTrailer; place = p })) place
     where
       place : at + 1 ≡ length m - length (b ∷ rest)
       place = omega arith
@@ -64,7 +62,7 @@ module _ (m : Bytes) (at : ℕ) (counts : Counts) where
           (go (record { at = at; counts = counts })))
           ≡ tallied counts.envelopes counts.rows (elim t [ true ↦ after_trailer m rest | false ↦ unbounded_walk edition m false (get_or m at 0 ∷ rest) ])
       by_byte less true is = trailer_law edition rest (length-drop (at + 1) m) less
-      by_byte less false is = λ i. tallied counts.envelopes counts.rows (unbounded_walk edition m (some i) (drop_step m at less i))
+      by_byte less false is = λ i. tallied counts.envelopes counts.rows (unbounded_walk edition m (some i) (drop_more m at 0 less i))
 
       by_end : (t : Bool) → leb (length m) at ≡ t
           → result_after edition m (cond t (Err (record { reason = NoTrailer; place = at }))
@@ -74,10 +72,10 @@ module _ (m : Bytes) (at : ℕ) (counts : Counts) where
       by_end true past =
           let over = leb-true (length m) at past in
           let here : at ≡ length m = omega arith in
-          ap (λ p. Err (record { reason = NoTrailer; place = p })) here ∙ sym (ap (λ l. tallied counts.envelopes counts.rows (at_boundary m (unbounded_walk edition m false) l)) (drop_past m at over))
+          ap (λ p. Err (record { reason = NoTrailer; place = p })) here ∙ sym (ap (λ l. tallied counts.envelopes counts.rows (at_boundary m (unbounded_walk edition m false) l)) (drop_all at m over))
       by_end false inside =
           let less = leb-false (length m) at inside in
-          by_byte less (eqb (get_or m at 0) EOT) refl ∙ sym (ap (λ l. tallied counts.envelopes counts.rows (at_boundary m (unbounded_walk edition m false) l)) (drop_step m at less))
+          by_byte less (eqb (get_or m at 0) EOT) refl ∙ sym (ap (λ l. tallied counts.envelopes counts.rows (at_boundary m (unbounded_walk edition m false) l)) (drop_more m at 0 less))
 
   boundary_further : at ≤ length m → counts.envelopes ≤ at → counts.rows ≤ at → (from : ℕ) → from < at → Further m from (boundary_turn m at counts)
   boundary_further inside few_e few_r from less = by (leb (length m) at) (eqb (get_or m at 0) EOT) (leb (length m) (at + 1))

@@ -12,6 +12,7 @@ use borrow.Author.Tests.{ltb-false}
 use lib.ListN.{length, get_or, drop}
 use lib.Seq.{drop-append_seam}
 use lib.Dec.{ltb, eqb}
+use Rattle.std.proofs.lemmas.Bool.{and_parts}
 use Rattle.label.specs.declared.Reason.{Reason}
 use Rattle.label.specs.declared.Reason.TheVariants.{TooLong, NoMessageHeader, NoIndicator, UnknownFormat, BadFormatHeader, PayloadDoesNotFit, ByteNotPermitted}
 use Rattle.label.specs.declared.WriteReason.TheVariants.{BadRows, NoSuchMessage}
@@ -35,7 +36,6 @@ use Rattle.label.specs.Place.{in_front, AtEnvelope}
 use Rattle.label.specs.Rendered.{rendered}
 use Rattle.label.specs.Writing.{ordinals_in, rows_stand, items_in, if_same, composed, Composition, declined, fitting, writing}
 use Rattle.label.specs.Promised.{AddedAt, Differ, SameInBoth}
-use Rattle.label.proofs.Tests.{both}
 use Rattle.label.proofs.Editions.{rules_differ}
 use Rattle.label.proofs.Digits.{digits_two}
 use Rattle.label.proofs.EnvelopeSound.{StepSo, step_so}
@@ -67,8 +67,8 @@ steps_agree first (a ∷ (b ∷ bs)) = by (digit a && digit b) refl (rules_diffe
     by false digits rules = inl refl
     by true digits (inl same) = inl (ap (λ rule. read_by rule first f bs) same)
     by true digits (inr lacks) =
-        let k = both (digit a) (digit b) digits in
-        inr (ap (λ rule. read_by rule first f bs) lacks.0, record { format = f; is_added = lacks.1; behind = bs; bytes = ap (λ two. two ++ bs) (sym (digits_two a b k.left k.right)) })
+        let k = and_parts (digit a) (digit b) digits in
+        inr (ap (λ rule. read_by rule first f bs) lacks.0, record { format = f; is_added = lacks.1; behind = bs; bytes = ap (λ two. two ++ bs) (sym (digits_two a b k.0 k.1)) })
 
 -- The walk
 

@@ -10,6 +10,8 @@ use borrow.Author.Tests.{ltb-true, ltb-false, le-ltb, lt-ltb}
 use lib.ListN.{length, take, length-map}
 use lib.Seq.{take_at}
 use lib.Dec.{ltb}
+use Rattle.std.proofs.lemmas.Bool.{and_parts}
+use Rattle.std.specs.Cmp.Derive.{both_true}
 use Rattle.label.specs.declared.WriteReason.{WriteReason}
 use Rattle.label.specs.declared.WriteReason.TheVariants.{BadRows, NoSuchMessage, NoOutputRoom}
 use Rattle.label.specs.Bytes.{Bytes}
@@ -24,7 +26,7 @@ use Rattle.label.specs.Writing.{rows_in, ordinals_in, rows_stand, item_in, items
 use Rattle.label.specs.Counting.{item_kinds, by_counting}
 use Rattle.label.specs.Promised.{MessageWith, LongerMessageWith, FittingMessageWith, NoMessageWith, ReadBack}
 use Rattle.label.proofs.Numbers.{write_reasons_by_number}
-use Rattle.label.proofs.Tests.{both, and_both, same_bytes_lem, bytes_same}
+use Rattle.label.proofs.Tests.{same_bytes_lem, bytes_same}
 use Rattle.label.proofs.ReadingSound.{ReadingSo, reading_so}
 use Rattle.label.proofs.ReadingComplete.{reading_pass}
 use Rattle.label.proofs.Rendering.{rendered_good}
@@ -47,12 +49,12 @@ module _ (edition : Edition) where
           by_items : (t : Bool) → (same_items (items_of (message_parts es)) is && same_ordinals (ordinals_of es) os) ≡ t → cond t (Some (rendered is)) None ≡ Some w → MessageWith edition is os w
           by_items true same says =
               let is_written : rendered is ≡ w = cc in
-              let k = both (same_items (items_of (message_parts es)) is) (same_ordinals (ordinals_of es) os) same in
+              let k = and_parts (same_items (items_of (message_parts es)) is) (same_ordinals (ordinals_of es) os) same in
               record {
                 envelopes = es;
                 good = subst (λ (m : Bytes). Good edition m es) is_written good;
-                items = same_items_lem _ is k.left;
-                ordinals = same_bytes_lem (ordinals_of es) os k.right;
+                items = same_items_lem _ is k.0;
+                ordinals = same_bytes_lem (ordinals_of es) os k.1;
               }
           by_items false same says = let z : ◌≡◌ {A = ℕ} 0 1 = cc in absurd (omega arith)
       by (refused r p) so says = let z : ◌≡◌ {A = ℕ} 0 1 = cc in absurd (omega arith)
@@ -65,7 +67,7 @@ module _ (edition : Edition) where
       (λ i. if_same is os (renders i) (reading edition (renders i)))
       ∙ ap (if_same is os m) (reading_pass edition m with.envelopes with.good)
       ∙ ap (λ t. cond t (Some m) None)
-      (and_both (ap (λ js. same_items js is) with.items ∙ items_same is) (ap (λ ps. same_ordinals ps os) with.ordinals ∙ bytes_same os))
+      (both_true (ap (λ js. same_items js is) with.items ∙ items_same is) (ap (λ ps. same_ordinals ps os) with.ordinals ∙ bytes_same os))
 
   -- Ordinals by counting: those that the items' kinds come to are the only ones with which a message is composed
 

@@ -7,13 +7,13 @@ use mathlib.Core.Logic.{◌⊎◌, inl, inr}
 use mathlib.Core.List.{List, [], ◌∷◌, ◌++◌}
 use borrow.Author.Tests.{eqb-true}
 use lib.Dec.{eqb}
+use Rattle.std.proofs.lemmas.Bool.{and_parts}
 use Rattle.label.specs.declared.Edition.{Edition}
 use Rattle.label.specs.declared.Edition.TheVariants.{Edition2005, Edition2025}
 use Rattle.label.specs.Bytes.{every}
 use Rattle.label.specs.Elements.{element12}
 use Rattle.label.specs.Formats.{Format, formats2005, added, formats, widest, rule_in, Rule, rule_of, as_fields, as_rest, as_segments, as_elements, as_text, as_counted, unknown}
 use Rattle.label.specs.Message.{Each}
-use Rattle.label.proofs.Tests.{both}
 
 each_in : (Fact : Rule → Type 0) → Fact unknown → (n : ℕ) (fs : List Format) → Each (λ (f : Format). Fact f.rule) fs → Fact (rule_in n fs)
 each_in Fact none n [] hs = none
@@ -69,8 +69,8 @@ not_known unknown h = refl
 in_added : (n : ℕ) (fs gs : List Format) → every (λ (f : Format). is_known f.rule) fs ≡ true → is_known (rule_in n fs) ≡ false → rule_in n (fs ++ gs) ≡ rule_in n gs
 in_added n [] gs all lacks = refl
 in_added n (f ∷ fs) gs all lacks =
-    let k = both (is_known f.rule) (every (λ (f : Format). is_known f.rule) fs) all in
-    by (eqb n f.number) k.left (in_added n fs gs k.right) lacks
+    let k = and_parts (is_known f.rule) (every (λ (f : Format). is_known f.rule) fs) all in
+    by (eqb n f.number) k.0 (in_added n fs gs k.1) lacks
   where
     by : (t : Bool) → is_known f.rule ≡ true → (is_known (rule_in n fs) ≡ false → rule_in n (fs ++ gs) ≡ rule_in n gs) → is_known (cond t f.rule (rule_in n fs)) ≡ false
         → cond t f.rule (rule_in n (fs ++ gs)) ≡ rule_in n gs

@@ -5,10 +5,12 @@ use mathlib.Core.Path.{◌≡◌, refl, sym, ap, ◌∙◌, subst}
 use mathlib.Core.Bool.{Bool, true, false, not, ◌||◌, cond, false≢true, true≢false}
 use mathlib.Core.List.{List, [], ◌∷◌, ◌++◌, map, append_assoc}
 use native.Mathlib.Omega.{arith}
-use borrow.Author.Tests.{lt-ltb, eq-eqb, leb-true}
+use borrow.Author.Tests.{lt-ltb, eq-eqb, leb-true, not-true}
 use lib.ListN.{length, take, drop, length-append}
 use lib.Seq.{take-append_seam, drop-append-add, get_or-append_seam, take_at, drop_at}
 use lib.Dec.{leb, eqb}
+use Rattle.std.proofs.lemmas.Bool.{and_parts, or_left, or_right, cond-true, cond-false, or_parts}
+use Rattle.std.specs.Cmp.Derive.{both_true}
 use Rattle.label.specs.declared.Limit.{Limit}
 use Rattle.label.specs.declared.Reason.{Reason}
 use Rattle.label.specs.declared.Reason.TheVariants.{BadFormatHeader}
@@ -29,7 +31,7 @@ use Rattle.label.specs.Envelope.{Envelope, fields, whole_rest, segments, element
 use Rattle.label.specs.Written.{two_digits, parts}
 use Rattle.label.specs.Message.{is_transport, is_rest, Each}
 use Rattle.label.specs.ReadEnvelope.{Step, closed, whole, must, opened, valued_at, valued, broken, body_at, bodied, plain_or_gs, version_of, read_fields, read_transport, read_rest, segment_byte, segments_in, are_segments, read_segments, read_elements, read_text, read_payload, read_values, read_count, read_counted, read_by, read_envelope}
-use Rattle.label.proofs.Tests.{both, and_both, cond_yes, cond_no, or_left, or_right, or_not, free, free_of, Without, without_or, without_one, plain_without, digit_without, not_true, not_false, every_implies}
+use Rattle.label.proofs.Tests.{or_not, free, free_of, Without, without_or, without_one, plain_without, digit_without, every_implies}
 use Rattle.label.proofs.Splitting.{joined, pieces_of_joined, last_of_terminated, cut_front, every_joined, terminated}
 use Rattle.label.proofs.Laid.{segment_bytes, content_bytes, format_of, bytes_envelope, value_bytes}
 use Rattle.label.proofs.SegmentLaws.{body_of, body_bytes, body_pieces, segments_again}
@@ -55,7 +57,7 @@ bodied_by permitted rules fault made body left without p =
 
 bodied_pass : (permitted : ℕ → Bool) (rules : Bytes → Bool) (fault : Bytes → Option Refusal) (made : Bytes → Envelope) (body left : Bytes)
     → Without RS permitted → every permitted body ≡ true → rules body ≡ true → bodied permitted rules fault made (body ++ (RS ∷ left)) ≡ closed (made body) left
-bodied_pass permitted rules fault made body left without p r = bodied_by permitted rules fault made body left without p ∙ cond_yes (rules body) _ _ r
+bodied_pass permitted rules fault made body left without p r = bodied_by permitted rules fault made body left without p ∙ cond-true (rules body) _ _ r
 
 -- RS is permitted in no body that runs to RS
 
@@ -72,20 +74,10 @@ segment_byte_without =
     (without_one RS GS refl))
     (without_one RS US refl)
 
-neither_left : (a b : Bool) → (a || b) ≡ false → a ≡ false
-neither_left true b h = h
-neither_left false b h = refl
-
-neither_right : (a b : Bool) → (a || b) ≡ false → b ≡ false
-neither_right true b h = absurd (true≢false h)
-neither_right false b h = h
-
 text_byte_without : Without RS text_byte
 unfolding text_byte control
 text_byte_without b h =
-    neither_right (eqb b EOT || eqb b FS || eqb b GS) (eqb b RS)
-    (neither_left (eqb b EOT || eqb b FS || eqb b GS || eqb b RS) (eqb b US)
-    (not_true _ (both (below80 b) _ h).right))
+    (or_parts (eqb b EOT || eqb b FS || eqb b GS) (eqb b RS) (or_parts (eqb b EOT || eqb b FS || eqb b GS || eqb b RS) (eqb b US) (not-true _ (and_parts (below80 b) _ h).1)).0).1
 
 -- what the completeness of a rule asks of its test
 abbrev Sound : Rule → Type 0
@@ -112,11 +104,11 @@ text_pass edition f body left w = bodied_pass w.permitted (λ b. true) whole_fau
 
 rest_pass : (edition : Edition) (f : ℕ) (body : Bytes) (w : Within edition (whole_rest f body)) → read_rest w.permitted f body ≡ whole (whole_rest f body)
 unfolding read_rest
-rest_pass edition f body w = must_pass _ _ _ (not_false w.not_empty) ∙ must_pass _ _ _ w.permitted_bytes
+rest_pass edition f body w = must_pass _ _ _ (ap not w.not_empty) ∙ must_pass _ _ _ w.permitted_bytes
 
 plain_joined : (ps : List Bytes) → every (every plain) ps ≡ true → every plain_or_gs (joined GS ps) ≡ true
 unfolding plain_or_gs
-plain_joined ps h = every_joined plain_or_gs GS ps (or_right (plain GS) refl) (every_implies (every plain) (every plain_or_gs) (every_implies plain plain_or_gs (λ b p. or_left (eqb b GS) p)) ps h)
+plain_joined ps h = every_joined plain_or_gs GS ps (or_right (plain GS) _ refl) (every_implies (every plain) (every plain_or_gs) (every_implies plain plain_or_gs (λ b p. or_left _ (eqb b GS) p)) ps h)
 
 free_pieces : (c : ℕ) → c < 0x20 → (ps : List Bytes) → every (every plain) ps ≡ true → every (free c) ps ≡ true
 free_pieces c before ps h = every_implies (every plain) (free c) (free_of c plain (plain_without c before)) ps h
@@ -134,7 +126,7 @@ module _ (rules : List Bytes → Bool) (fault : Bytes → Option Refusal) (made 
   pub pieces_broken : rules ps ≡ false → bodied plain_or_gs (λ body. rules (pieces GS body)) fault (λ body. made (pieces GS body)) (joined GS ps ++ (RS ∷ left)) ≡ broken (joined GS ps ++ (RS ∷ left)) (fault (joined GS ps))
   pieces_broken r =
       bodied_by plain_or_gs (λ body. rules (pieces GS body)) fault (λ body. made (pieces GS body)) (joined GS ps) left plain_or_gs_without (plain_joined ps p)
-      ∙ cond_no (rules (pieces GS (joined GS ps))) _ _ (ap rules pieces_back ∙ r)
+      ∙ cond-false (rules (pieces GS (joined GS ps))) _ _ (ap rules pieces_back ∙ r)
 
 elements_pass : (edition : Edition) (f : ℕ) (es : List Bytes) (left : Bytes) (w : Within edition (elements f es)) → read_elements w.is_element f (GS ∷ (joined GS es ++ (RS ∷ left))) ≡ closed (elements f es) left
 unfolding read_elements
@@ -168,9 +160,9 @@ transport_pass edition f v fs left w =
 six_long : (header : Bytes) → release header ≡ true → length header ≡ release_length
 unfolding release long_as
 six_long header h =
-    let k = both (leb release_length (length header)) (leb (length header) release_length) (both _ _ h).left in
-    let least = leb-true release_length (length header) k.left in
-    let greatest = leb-true (length header) release_length k.right in
+    let k = and_parts (leb release_length (length header)) (leb (length header) release_length) (and_parts _ _ h).0 in
+    let least = leb-true release_length (length header) k.0 in
+    let greatest = leb-true (length header) release_length k.1 in
     omega arith
 
 -- 03 and 04, given the six bytes and what follows them
@@ -190,36 +182,36 @@ segments_pass edition f header ss left w =
     (λ i. read_six w.is_tag f (take_at header tail release_length six i) (drop_at header tail release_length six i))
     ∙ must_pass (release header) _ _ w.six_bytes
     ∙ bodied_pass segment_byte (are_segments w.is_tag) whole_fault (λ body. segments f header (segments_in body)) (body_of ss) left segment_byte_without (body_bytes ss w.plain_bytes)
-    (and_both (and_both ends (ap (λ x. not (is_empty x)) again ∙ not_false w.one_or_more)) (ap (every (tagged w.is_tag)) again ∙ w.all_tagged))
+    (both_true (both_true ends (ap (λ x. not (is_empty x)) again ∙ ap not w.one_or_more)) (ap (every (tagged w.is_tag)) again ∙ w.all_tagged))
     ∙ ap (λ x. closed (segments f header x) left) again
 
 payload_pass : (made : Bytes → Envelope) (payload left : Bytes) → read_payload (length payload) made (payload ++ (RS ∷ left)) ≡ closed (made payload) left
 unfolding read_payload
 payload_pass made payload left =
     must_pass _ _ _
-    (and_both (lt-ltb (length payload) (length (payload ++ (RS ∷ left))) (omega (arith, length-append payload (RS ∷ left))))
+    (both_true (lt-ltb (length payload) (length (payload ++ (RS ∷ left))) (omega (arith, length-append payload (RS ∷ left))))
     (eq-eqb _ RS (get_or-append_seam payload RS left 0)))
     ∙ (λ i. closed (made (take-append_seam payload (RS ∷ left) i)) (drop-append-add payload (RS ∷ left) 1 i))
 
 -- a header value has no GS
 value_free : (limit : Limit) (v : Bytes) → header_value limit v ≡ true → free GS v ≡ true
 unfolding header_value
-value_free limit v is = free_of GS plain (plain_without GS (omega arith)) v (both (long_as limit v) (every plain v) is).right
+value_free limit v is = free_of GS plain (plain_without GS (omega arith)) v (and_parts (long_as limit v) (every plain v) is).1
 
 values_pass : (limits : List Limit) (vs : List Bytes) (rest : Bytes) (next : List Bytes → Bytes → Step) → header_values limits vs ≡ true → read_values limits (terminated GS vs ++ rest) next ≡ next vs rest
 values_pass [] [] rest next are = refl
 values_pass [] (v ∷ vs) rest next are = absurd (false≢true are)
 values_pass (l ∷ ls) [] rest next are = absurd (false≢true are)
 values_pass (l ∷ ls) (v ∷ vs) rest next are =
-    let k = both (header_value l v) (header_values ls vs) are in
+    let k = and_parts (header_value l v) (header_values ls vs) are in
     ap (λ bs. read_values (l ∷ ls) bs next) (append_assoc v (GS ∷ terminated GS vs) rest)
-    ∙ valued_pass (header_value l) v _ _ (value_free l v k.left) k.left
-    ∙ values_pass ls vs rest (λ ws. next (v ∷ ws)) k.right
+    ∙ valued_pass (header_value l) v _ _ (value_free l v k.0) k.0
+    ∙ values_pass ls vs rest (λ ws. next (v ∷ ws)) k.1
 
 count_pass : (f : ℕ) (vs : List Bytes) (n payload left : Bytes) → count n ≡ true → value n ≡ length payload → read_count f vs (n ++ (GS ∷ (payload ++ (RS ∷ left)))) ≡ closed (counted f vs n payload) left
 unfolding read_count count
 count_pass f vs n payload left is_count counts =
-    valued_pass count n _ _ (free_of GS digit (digit_without GS (omega arith)) n (both (long_as (1 to 15) n) (every digit n) is_count).right) is_count
+    valued_pass count n _ _ (free_of GS digit (digit_without GS (omega arith)) n (and_parts (long_as (1 to 15) n) (every digit n) is_count).1) is_count
     ∙ ap (λ k. read_payload k (counted f vs n) (payload ++ (RS ∷ left))) counts
     ∙ payload_pass (counted f vs n) payload left
 
@@ -241,7 +233,7 @@ pub indicator_pass : (edition : Edition) (first : Bool) (f : ℕ) (rule : Rule) 
 unfolding read_envelope
 indicator_pass edition first f rule bs known is =
     let so = two_digits_lem f (known_small edition f (λ u. true≢false (sym is ∙ ap is_known (sym known ∙ u)))) in
-    must_pass _ _ _ (and_both so.first so.second)
+    must_pass _ _ _ (both_true so.first so.second)
     ∙ ap (λ n. read_by (rule_of edition n) first n bs) so.number
     ∙ ap (λ r. read_by r first f bs) known
 

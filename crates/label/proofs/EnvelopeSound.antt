@@ -3,14 +3,16 @@
 use Rattle.std.specs.Prelude.{None, Option, Some}
 use Prim.Native.Nat.{ℕ, ◌+◌, ◌<◌}
 use mathlib.Core.Path.{◌≡◌, refl, sym, ap, ◌∙◌, subst}
-use mathlib.Core.Bool.{Bool, true, false, not, ◌&&◌, ◌||◌, cond, true≢false, false≢true}
+use mathlib.Core.Bool.{Bool, true, false, not, ◌&&◌, ◌||◌, cond, true≢false, false≢true, or-true}
 use mathlib.Core.List.{List, [], ◌∷◌, ◌++◌, map, append_assoc}
 use native.Mathlib.Omega.{arith}
 use native.Mathlib.Numerals.{add-one}
-use borrow.Author.Tests.{ltb-true, eqb-true}
+use borrow.Author.Tests.{ltb-true, eqb-true, not-true}
 use lib.ListN.{length, get_or, take, drop, take-append-drop}
 use lib.Seq.{split_at, length-take-le, drop-append_seam}
 use lib.Dec.{ltb, eqb}
+use Rattle.std.proofs.lemmas.Bool.{and_parts, or_left}
+use Rattle.std.specs.Cmp.Derive.{both_true}
 use Rattle.label.specs.declared.Limit.{Limit}
 use Rattle.label.specs.declared.Reason.{Reason}
 use Rattle.label.specs.declared.Reason.TheVariants.{TooLong, NoMessageHeader, NoIndicator, NoTrailer, BytesAfterTrailer, UnknownFormat, NotFirst, BadFormatHeader, PayloadDoesNotFit, ByteNotPermitted, BodyBreaksRules, NoRecordSeparator, TooManyRows, NoRoom, BadFieldCount, FieldTooShort, FieldTooLong, BadFieldBytes}
@@ -31,7 +33,7 @@ use Rattle.label.specs.Message.{is_transport, is_rest}
 use Rattle.label.specs.ReadEnvelope.{Step, closed, whole, refuse, refuse_at, must, opened, valued_at, valued, broken, body_at, bodied, plain_or_gs, version_of, read_fields, read_transport, read_rest, segment_byte, segments_in, are_segments, read_segments, read_elements, read_text, read_payload, read_values, read_count, read_counted, read_by, read_envelope}
 use Rattle.label.specs.Lacking.{ahead_of_field, ahead_of_element, FaultIn}
 use Rattle.label.specs.Promised.{judged_whole}
-use Rattle.label.proofs.Tests.{both, or_left, or_not, same_bytes_lem, not_true, and_both}
+use Rattle.label.proofs.Tests.{or_not, same_bytes_lem}
 use Rattle.label.proofs.Splitting.{joined, terminated, joined_pieces, pieces_some, CutSo, cut_so, every_pieces}
 use Rattle.label.proofs.Laid.{segment_bytes, value_bytes, content_bytes, format_of, bytes_each_ended, bytes_envelope}
 use Rattle.label.proofs.Faults.{Ahead, elements_fault_so, elements_ahead, fields_fault_so, fields_ahead}
@@ -89,7 +91,7 @@ module _ (Claim : Step → Type 0) (refusal : (r : Reason) → BeforeRules r →
   values_so (l ∷ ls) bs next h =
       valued_so (header_value l) bs _ λ v rest e is_value.
       values_so ls rest (λ vs. next (v ∷ vs)) λ vs left e' are.
-      h (v ∷ vs) left (e ∙ ap (λ x. v ++ (GS ∷ x)) e' ∙ sym (append_assoc v (GS ∷ terminated GS vs) left)) (and_both is_value are)
+      h (v ∷ vs) left (e ∙ ap (λ x. v ++ (GS ∷ x)) e' ∙ sym (append_assoc v (GS ∷ terminated GS vs) left)) (both_true is_value are)
 
   bodied_so : (permitted : ℕ → Bool) (rules : Bytes → Bool) (fault : Bytes → Option Refusal) (made : Bytes → Envelope) (bs : Bytes)
       → ((body left : Bytes) → bs ≡ body ++ (RS ∷ left) → every permitted body ≡ true → rules body ≡ false → Claim (broken bs (fault body)))
@@ -144,10 +146,6 @@ StepSo edition first bs (refuse_at r from) = FaultSo edition first bs r from
 bytes_closed : (e : Envelope) (bs left : Bytes) → bs ≡ content_bytes e ++ (RS ∷ left) → two_digits (format_of e) ++ bs ≡ bytes_of (parts e) ++ (RS ∷ left)
 bytes_closed e bs left h = ap (λ r. two_digits (format_of e) ++ r) h ∙ sym (ap (λ r. r ++ (RS ∷ left)) (bytes_envelope e))
 
-or_true : (a : Bool) → (a || true) ≡ true
-or_true true = refl
-or_true false = refl
-
 pub version_so : (bs : Bytes) (v : Version) → version_of bs ≡ Some v → bs ≡ version_digits v
 unfolding version_of
 version_so bs v h = by_tests (same_bytes bs (version_digits Version02)) (same_bytes bs (version_digits Version96)) refl refl h
@@ -169,9 +167,9 @@ record AreSegments (is_tag : Bytes → Bool) (body : Bytes) : Type 0 where
 are_segments_lem : (is_tag : Bytes → Bool) (body : Bytes) → are_segments is_tag body ≡ true → AreSegments is_tag body
 unfolding are_segments
 are_segments_lem is_tag body h =
-    let k = both (last_is_empty (pieces FS body) && not (is_empty (segments_in body))) (every (tagged is_tag) (segments_in body)) h in
-    let l = both (last_is_empty (pieces FS body)) (not (is_empty (segments_in body))) k.left in
-    record { last_empty = l.left; one_or_more = not_true _ l.right; all_tagged = k.right }
+    let k = and_parts (last_is_empty (pieces FS body) && not (is_empty (segments_in body))) (every (tagged is_tag) (segments_in body)) h in
+    let l = and_parts (last_is_empty (pieces FS body)) (not (is_empty (segments_in body))) k.0 in
+    record { last_empty = l.0; one_or_more = not-true _ l.1; all_tagged = k.1 }
 
 module _ (edition : Edition) (first : Bool) where
   -- what is read behind a format's indicator
@@ -209,7 +207,7 @@ module _ (edition : Edition) (first : Bool) where
       (λ body left e p r. record {
         within = record { permitted = permitted; known = known; permitted_bytes = p };
         not_rest = refl;
-        in_place = or_true first;
+        in_place = or-true first;
         bytes = bytes_closed (text f body) bs left e;
       })
 
@@ -219,7 +217,7 @@ module _ (edition : Edition) (first : Bool) where
       must_so (After f bs) before (not (is_empty bs)) _ _ (as_whole refl f bs refl (ap judged_whole known))
       (λ some. must_so (After f bs) before (every permitted bs) _ _ (before_rules tt)
       (λ p. record {
-        within = record { permitted = permitted; known = known; not_empty = not_true (is_empty bs) some; permitted_bytes = p };
+        within = record { permitted = permitted; known = known; not_empty = not-true (is_empty bs) some; permitted_bytes = p };
         takes_rest = refl;
         is_first = is_first;
         bytes = sym (bytes_envelope (whole_rest f bs));
@@ -240,12 +238,12 @@ module _ (edition : Edition) (first : Bool) where
       subst (λ (x : Option Refusal). After f bs (broken after x)) (sym found.is)
       (piece_so (elements f (pieces GS body)) found.reason (ahead_of_element f found.front) (GS ∷ []) bs after (joined GS (pieces GS body)) left found.front
       record { is_element = is_element; known = known; one_or_more = pieces_some GS body; plain_bytes = plain_pieces body p; front = found.front; fault = found.fault; in_front_of_it = refl }
-      (or_true first) (written after opens body left e) (ap (λ x. two_digits f ++ (GS ∷ x)) (bytes_each_ended GS piece_row f found.front)) opens (back after body left e)
+      (or-true first) (written after opens body left e) (ap (λ x. two_digits f ++ (GS ∷ x)) (bytes_each_ended GS piece_row f found.front)) opens (back after body left e)
       (elements_ahead is_element (pieces GS body) found.front found.reason found.fault)))
       λ body left e p r. record {
         within = record { is_element = is_element; known = known; one_or_more = pieces_some GS body; plain_bytes = plain_pieces body p; as_stated = r };
         not_rest = refl;
-        in_place = or_true first;
+        in_place = or-true first;
         bytes = bytes_closed (elements f (pieces GS body)) bs left (written after opens body left e);
       }
     where
@@ -264,12 +262,12 @@ module _ (edition : Edition) (first : Bool) where
       subst (λ (x : Option Refusal). After f bs (broken rest x)) (sym (ap (λ x. fields_fault_by v (length x) (pieces GS body)) (sym (joined_pieces GS body)) ∙ found.is))
       (piece_so (fields f v (pieces GS body)) found.reason (ahead_of_field f v found.front) (GS ∷ version_digits v) bs rest (joined GS (pieces GS body)) left found.front
       record { known = known; one_or_more = pieces_some GS body; plain_bytes = plain_pieces body p; front = found.front; fault = found.fault; in_front_of_it = refl }
-      (or_left (not true) is_first) (written body left e) (ap (λ x. two_digits f ++ (GS ∷ (version_digits v ++ x))) (bytes_each_ended GS piece_row f found.front)) opens (back body left e)
+      (or_left _ (not true) is_first) (written body left e) (ap (λ x. two_digits f ++ (GS ∷ (version_digits v ++ x))) (bytes_each_ended GS piece_row f found.front)) opens (back body left e)
       (fields_ahead v (pieces GS body) found.front found.reason found.fault)))
       λ body left e p r. record {
         within = record { known = known; plain_bytes = plain_pieces body p; as_stated = r };
         not_rest = refl;
-        in_place = or_left (not true) is_first;
+        in_place = or_left _ (not true) is_first;
         bytes = bytes_closed (fields f v (pieces GS body)) bs left (written body left e);
       }
     where
@@ -298,15 +296,15 @@ module _ (edition : Edition) (first : Bool) where
   count_so f limits vs bs after known are opens =
       valued_so (After f bs) before count after _ λ n rest e is_count.
       must_so (After f bs) before (ltb (value n) (length rest) && eqb (get_or rest (value n) 0) RS) _ _ (before_rules tt) λ fits.
-      let k = both (ltb (value n) (length rest)) (eqb (get_or rest (value n) 0) RS) fits in
-      let short = ltb-true (value n) (length rest) k.left in
+      let k = and_parts (ltb (value n) (length rest)) (eqb (get_or rest (value n) 0) RS) fits in
+      let short = ltb-true (value n) (length rest) k.0 in
       record {
         within = record { limits = limits; known = known; are_values = are; is_count = is_count; counts = sym (length-take-le (value n) rest (omega arith)) };
         not_rest = refl;
-        in_place = or_true first;
+        in_place = or-true first;
         bytes = bytes_closed (counted f vs n (take (value n) rest)) bs (drop (value n + 1) rest)
             (opens
-            ∙ ap (λ x. value_bytes vs ++ x) (e ∙ ap (λ x. n ++ (GS ∷ x)) (payload_at (value n) rest short (eqb-true _ _ k.right)))
+            ∙ ap (λ x. value_bytes vs ++ x) (e ∙ ap (λ x. n ++ (GS ∷ x)) (payload_at (value n) rest short (eqb-true _ _ k.1)))
             ∙ regrouped (value_bytes vs) n (take (value n) rest) (drop (value n + 1) rest));
       }
     where
@@ -337,7 +335,7 @@ module _ (edition : Edition) (first : Bool) where
       record {
         within = record { is_tag = is_tag; known = known; six_bytes = is_release; one_or_more = so.one_or_more; plain_bytes = plain_segments body p; all_tagged = so.all_tagged };
         not_rest = refl;
-        in_place = or_true first;
+        in_place = or-true first;
         bytes = bytes_closed (segments f (take release_length bs) (segments_in body)) bs left
             (sym (take-append-drop release_length bs)
             ∙ ap (λ x. take release_length bs ++ x) (opens ∙ ap (λ x. FS ∷ (GS ∷ (US ∷ x))) (e ∙ ap (λ x. x ++ (RS ∷ left)) (sym (segments_back body so.last_empty))))
@@ -361,7 +359,7 @@ step_so edition first [] = before_rules tt
 step_so edition first (a ∷ []) = before_rules tt
 step_so edition first (a ∷ (b ∷ bs)) =
     must_so (StepSo edition first (a ∷ (b ∷ bs))) (λ r why. before_rules why) (digit a && digit b) _ _ (before_rules tt) λ digits.
-    let k = both (digit a) (digit b) digits in
+    let k = and_parts (digit a) (digit b) digits in
     let f = value (a ∷ b ∷ []) in
-    subst (λ (two : Bytes). StepSo edition first (two ++ bs) (read_by (rule_of edition f) first f bs)) (digits_two a b k.left k.right)
+    subst (λ (two : Bytes). StepSo edition first (two ++ bs) (read_by (rule_of edition f) first f bs)) (digits_two a b k.0 k.1)
     (by_so edition first (rule_of edition f) f bs refl)

@@ -6,10 +6,13 @@ use mathlib.Core.Path.{◌≡◌, refl, sym, ap, ◌∙◌}
 use mathlib.Core.Bool.{Bool, true, false, not, ◌&&◌, ◌||◌, cond, true≢false, false≢true}
 use mathlib.Core.List.{List, [], ◌∷◌, ◌++◌, append_assoc, append-nil}
 use native.Mathlib.Omega.{arith}
-use borrow.Author.Tests.{ltb-true, ltb-false, leb-true, leb-false, lt-ltb, le-ltb, le-leb}
+use borrow.Author.Tests.{ltb-true, ltb-false, leb-true, lt-ltb, le-ltb, le-leb}
 use lib.ListN.{length, get_or, drop, length-append}
 use lib.Seq.{drop-nil}
 use lib.Dec.{leb, ltb}
+use Rattle.std.proofs.lemmas.Bool.Decides.{nat_tests}
+use Rattle.std.proofs.lemmas.Bool.{and_parts, and_right, cond-true, cond-false}
+use Rattle.std.specs.Cmp.Derive.{both_true}
 use Rattle.label.specs.declared.Reason.{Reason}
 use Rattle.label.specs.declared.Reason.TheVariants.{BodyBreaksRules, BadFieldCount, FieldTooShort, FieldTooLong, BadFieldBytes}
 use Rattle.label.specs.Bytes.{Bytes, GS, plain, every}
@@ -21,7 +24,6 @@ use Rattle.label.specs.declared.Version.TheVariants.{Version02, Version96}
 use Rattle.label.specs.Fields.{field_bytes, version_row, least_fields, field, fields_from, transport}
 use Rattle.label.specs.Faults.{fault_or, first_fault, element_fault, left_out, field_fault, count_fits, fields_fault_by, in_piece}
 use Rattle.label.specs.Lacking.{FieldLacks, too_short, too_long, bad_bytes, FieldsLack, bad_count, empty_last, at_field, ElementsLack, at_element}
-use Rattle.label.proofs.Tests.{both, and_both, right_fails, cond_yes, cond_no}
 use Rattle.label.proofs.Splitting.{behind, joined, terminated, last_of_terminated, terminated_without_last}
 use Rattle.label.specs.declared.Refusal.{Refusal}
 
@@ -97,7 +99,7 @@ module _ (fault_of : ℕ → Bytes → Option Reason) where
             more = later.more;
             reason = later.reason;
             list = ap (λ x. p ∷ x) later.list;
-            faultless = and_both (ap is_faultless is) later.faultless;
+            faultless = both_true (ap is_faultless is) later.faultless;
             faulty = ap (λ n. fault_of n later.piece) (omega arith) ∙ later.faulty;
             found = ap (λ x. fault_or x at (first_fault fault_of (i + 1) (at + length p + 1) ps)) is
                 ∙ later.found
@@ -107,16 +109,16 @@ module _ (fault_of : ℕ → Bytes → Option Reason) where
   not_all_with : (front : List Bytes) (i : ℕ) (p : Bytes) (more : List Bytes) (r : Reason) → fault_of (i + length front) p ≡ Some r → faultless_from fault_of i (front ++ (p ∷ more)) ≡ false
   not_all_with [] i p more r faulty = ap (λ x. is_faultless x && faultless_from fault_of (i + 1) more) (ap (λ n. fault_of n p) (omega arith) ∙ faulty)
   not_all_with (q ∷ front) i p more r faulty =
-      right_fails (is_faultless (fault_of i q)) (not_all_with front (i + 1) p more r (ap (λ n. fault_of n p) (omega arith) ∙ faulty))
+      and_right (is_faultless (fault_of i q)) _ (not_all_with front (i + 1) p more r (ap (λ n. fault_of n p) (omega arith) ∙ faulty))
 
   first_pass : (front : List Bytes) (i at : ℕ) (p : Bytes) (more : List Bytes) (r : Reason) → faultless_from fault_of i front ≡ true → fault_of (i + length front) p ≡ Some r
       → first_fault fault_of i at (front ++ (p ∷ more)) ≡ in_piece r (at + length (terminated GS front))
   first_pass [] i at p more r faultless faulty =
       ap (λ x. fault_or x at (first_fault fault_of (i + 1) (at + length p + 1) more)) (ap (λ n. fault_of n p) (omega arith) ∙ faulty) ∙ ap (in_piece r) (omega arith)
   first_pass (q ∷ front) i at p more r faultless faulty =
-      let k = both (is_faultless (fault_of i q)) (faultless_from fault_of (i + 1) front) faultless in
-      ap (λ x. fault_or x at (first_fault fault_of (i + 1) (at + length q + 1) (front ++ (p ∷ more)))) (none (fault_of i q) k.left)
-      ∙ first_pass front (i + 1) (at + length q + 1) p more r k.right (ap (λ n. fault_of n p) (omega arith) ∙ faulty)
+      let k = and_parts (is_faultless (fault_of i q)) (faultless_from fault_of (i + 1) front) faultless in
+      ap (λ x. fault_or x at (first_fault fault_of (i + 1) (at + length q + 1) (front ++ (p ∷ more)))) (none (fault_of i q) k.0)
+      ∙ first_pass front (i + 1) (at + length q + 1) p more r k.1 (ap (λ n. fault_of n p) (omega arith) ∙ faulty)
       ∙ ap (in_piece r) (terminated_longer GS q front at)
     where
       none : (x : Option Reason) → is_faultless x ≡ true → x ≡ None
@@ -164,7 +166,7 @@ pub record Told (rules : Bool) (found : Option Refusal) (front : List Bytes) (r 
 pub elements_fault_pass : (is_element : Bytes → Bool) (es front : List Bytes) (r : Reason) → ElementsLack is_element es front r → Told (every is_element es) (first_fault (element_fault is_element) 0 0 es) front r
 unfolding element_fault
 elements_fault_pass is_element es front r (at_element why faultless e more list faulty) =
-    let this : element_fault is_element (length front) e ≡ Some r = cond_no (is_element e) _ _ faulty ∙ ap Some (sym why) in
+    let this : element_fault is_element (length front) e ≡ Some r = cond-false (is_element e) _ _ faulty ∙ ap Some (sym why) in
     record {
       broken = sym (elements_agree is_element es 0) ∙ ap (faultless_from (element_fault is_element) 0) list ∙ not_all_with (element_fault is_element) front 0 e more r this;
       is = ap (first_fault (element_fault is_element) 0 0) list ∙ first_pass (element_fault is_element) front 0 0 e more r (elements_agree is_element front 0 ∙ faultless) this ∙ ap (in_piece r) (omega arith);
@@ -177,17 +179,13 @@ elements_ahead is_element es front r (at_element why faultless e more list fault
 
 -- one number is below another exactly if that isn't at most it
 pub not_leb : (a b : ℕ) → ltb a b ≡ not (leb b a)
-not_leb a b = by (leb b a) refl
-  where
-    by : (t : Bool) → leb b a ≡ t → ltb a b ≡ not t
-    by true is = le-ltb a b (leb-true b a is)
-    by false is = lt-ltb a b (leb-false b a is)
+not_leb a b = grind (arith, nat_tests)
 
 -- no least length is above its greatest, so a field that is too long isn't too short
 ordered_in : (row : List Limit) → every (λ l. leb l.0 l.1) row ≡ true → (i : ℕ) → (get_or row i (0 to 0)).0 ≤ (get_or row i (0 to 0)).1
 ordered_in [] h i = omega arith
-ordered_in (l ∷ row) h zero = leb-true l.0 l.1 (both (leb l.0 l.1) (every (λ l. leb l.0 l.1) row) h).left
-ordered_in (l ∷ row) h (suc i) = ordered_in row (both (leb l.0 l.1) (every (λ l. leb l.0 l.1) row) h).right i
+ordered_in (l ∷ row) h zero = leb-true l.0 l.1 (and_parts (leb l.0 l.1) (every (λ l. leb l.0 l.1) row) h).0
+ordered_in (l ∷ row) h (suc i) = ordered_in row (and_parts (leb l.0 l.1) (every (λ l. leb l.0 l.1) row) h).1 i
 
 limits_ordered : (v : Version) (i : ℕ) → (limit_of (version_row v) i).0 ≤ (limit_of (version_row v) i).1
 limits_ordered Version02 i = ordered_in (get_or limits 0 []) refl i
@@ -244,24 +242,24 @@ module _ (v : Version) where
       by false false true ok o s l b is = record { stands = o; lacks = too_long (cc) (ltb-true (greatest i) (length f) l) }
       by false false false true o s l b is = let z : ◌≡◌ {A = ℕ} 0 1 = cc in absurd (omega arith)
       by false false false false o s l b is =
-          record { stands = o; lacks = bad_bytes (cc) (and_both (le-leb (least i) (length f) (ltb-false (length f) (least i) s)) (le-leb (length f) (greatest i) (ltb-false (greatest i) (length f) l))) b }
+          record { stands = o; lacks = bad_bytes (cc) (both_true (le-leb (least i) (length f) (ltb-false (length f) (least i) s)) (le-leb (length f) (greatest i) (ltb-false (greatest i) (length f) l))) b }
 
   field_fault_pass : (i : ℕ) (f : Bytes) (r : Reason) → left_out i f ≡ false → FieldLacks v i f r → field_fault v i f ≡ Some r
   unfolding field_fault long_as
   field_fault_pass i f r stands (too_short why short) =
-      cond_no (left_out i f) _ _ stands ∙ cond_yes (ltb (length f) (least i)) _ _ (lt-ltb (length f) (least i) short) ∙ ap Some (sym why)
+      cond-false (left_out i f) _ _ stands ∙ cond-true (ltb (length f) (least i)) _ _ (lt-ltb (length f) (least i) short) ∙ ap Some (sym why)
   field_fault_pass i f r stands (too_long why long) =
       let order = limits_ordered v i in
-      cond_no (left_out i f) _ _ stands
-      ∙ cond_no (ltb (length f) (least i)) _ _ (le-ltb (length f) (least i) (omega arith))
-      ∙ cond_yes (ltb (greatest i) (length f)) _ _ (lt-ltb (greatest i) (length f) long)
+      cond-false (left_out i f) _ _ stands
+      ∙ cond-false (ltb (length f) (least i)) _ _ (le-ltb (length f) (least i) (omega arith))
+      ∙ cond-true (ltb (greatest i) (length f)) _ _ (lt-ltb (greatest i) (length f) long)
       ∙ ap Some (sym why)
   field_fault_pass i f r stands (bad_bytes why fits wrong) =
-      let k = both (leb (least i) (length f)) (leb (length f) (greatest i)) fits in
-      cond_no (left_out i f) _ _ stands
-      ∙ cond_no (ltb (length f) (least i)) _ _ (le-ltb (length f) (least i) (leb-true (least i) (length f) k.left))
-      ∙ cond_no (ltb (greatest i) (length f)) _ _ (le-ltb (greatest i) (length f) (leb-true (length f) (greatest i) k.right))
-      ∙ cond_no (right i f) _ _ wrong
+      let k = and_parts (leb (least i) (length f)) (leb (length f) (greatest i)) fits in
+      cond-false (left_out i f) _ _ stands
+      ∙ cond-false (ltb (length f) (least i)) _ _ (le-ltb (length f) (least i) (leb-true (least i) (length f) k.0))
+      ∙ cond-false (ltb (greatest i) (length f)) _ _ (le-ltb (greatest i) (length f) (leb-true (length f) (greatest i) k.1))
+      ∙ cond-false (right i f) _ _ wrong
       ∙ ap Some (sym why)
 
 -- an empty last one past some: the others stand in front of it
@@ -325,22 +323,22 @@ module _ (v : Version) where
   unfolding transport
   fields_fault_pass fs front r (bad_count why fits none) = record {
     broken = ap (λ t. kept_by t (fields_from v 0 fs) (last_is_empty (drop least_fields fs))) fits;
-    is = cond_no (count_fits v fs) _ _ fits ∙ (λ i. in_piece (sym why i) (length (terminated GS (sym none i))));
+    is = cond-false (count_fits v fs) _ _ fits ∙ (λ i. in_piece (sym why i) (length (terminated GS (sym none i))));
   }
   fields_fault_pass fs front r (empty_last why fits list past) =
       let empty : last_is_empty (drop least_fields fs) ≡ true = ap (λ x. last_is_empty (drop least_fields x)) list ∙ last_empty_pass least_fields front past in
       let end : joined GS fs ≡ terminated GS front = ap (joined GS) list ∙ joined_at GS front [] [] ∙ append-nil (terminated GS front) in
       record {
-        broken = right_fails (count_fits v fs && fields_from v 0 fs) (ap not empty);
-        is = cond_yes (count_fits v fs) _ _ fits ∙ cond_yes (last_is_empty (drop least_fields fs)) _ _ empty ∙ (λ i. in_piece (sym why i) (length (end i)));
+        broken = and_right (count_fits v fs && fields_from v 0 fs) _ (ap not empty);
+        is = cond-true (count_fits v fs) _ _ fits ∙ cond-true (last_is_empty (drop least_fields fs)) _ _ empty ∙ (λ i. in_piece (sym why i) (length (end i)));
       }
   fields_fault_pass fs front r (at_field fits full faultless f more list stands lacks) =
       let this : field_fault v (0 + length front) f ≡ Some r = ap (λ n. field_fault v n f) (omega arith) ∙ field_fault_pass v (length front) f r stands lacks in
       let not_all : fields_from v 0 fs ≡ false = sym (fields_agree v fs 0) ∙ ap (faultless_from (field_fault v) 0) list ∙ not_all_with (field_fault v) front 0 f more r this in
       record {
         broken = (λ i. kept_by (fits i) (not_all i) (full i));
-        is = cond_yes (count_fits v fs) _ _ fits
-            ∙ cond_no (last_is_empty (drop least_fields fs)) _ _ full
+        is = cond-true (count_fits v fs) _ _ fits
+            ∙ cond-false (last_is_empty (drop least_fields fs)) _ _ full
             ∙ ap (first_fault (field_fault v) 0 0) list
             ∙ first_pass (field_fault v) front 0 0 f more r (fields_agree v front 0 ∙ faultless) this
             ∙ ap (in_piece r) (omega arith);

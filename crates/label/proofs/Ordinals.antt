@@ -9,8 +9,10 @@ use native.Mathlib.Omega.{arith}
 use native.Mathlib.Numerals.{add-one}
 use lib.ListN.{length, get_or, drop, length-map, length-drop}
 use lib.Dec.{leb, ltb}
-use borrow.Author.Tests.{leb-true, leb-false, lt-ltb, le-ltb}
+use borrow.Author.Tests.{leb-true, leb-false, lt-ltb, le-ltb, not-true}
 use Rattle.std.specs.Int.{from_bool}
+use Rattle.std.proofs.lemmas.Bool.{and_parts}
+use Rattle.std.specs.Cmp.Derive.{both_true}
 use Rattle.label.specs.Bytes.{Bytes, EOT, FS, GS, RS, US, every}
 use Rattle.label.specs.Layout.{Item, Part, mark, item, marks, Row, items_of, rows_from, separated, further, ended}
 use Rattle.label.specs.Segments.{Element, Segment}
@@ -20,7 +22,7 @@ use Rattle.label.specs.Message.{header, is_rest_alone, message_parts, rows_of, o
 use Rattle.label.specs.ReadMessage.{Outcome, read, refused}
 use Rattle.label.specs.Answer.{rows_read, ordinals_read}
 use Rattle.label.specs.Counting.{kinds_of, item_kinds, raised, counting_on, by_counting}
-use Rattle.label.proofs.Tests.{both, and_both, every_append, not_true}
+use Rattle.label.proofs.Tests.{every_append}
 
 -- Kinds
 
@@ -52,7 +54,7 @@ others_append ps qs h h' = ap (every other) (parts_items ps qs) ∙ every_append
 -- runs of parts, each without an indicator
 others_further : (s : ℕ) (runs : List (List Part)) → every others runs ≡ true → others (further s runs) ≡ true
 others_further s [] h = refl
-others_further s (run ∷ runs) h = let k = both (others run) (every others runs) h in others_append run (further s runs) k.left (others_further s runs k.right)
+others_further s (run ∷ runs) h = let k = and_parts (others run) (every others runs) h in others_append run (further s runs) k.0 (others_further s runs k.1)
 
 others_separated : (s : ℕ) (runs : List (List Part)) → every others runs ≡ true → others (separated s runs) ≡ true
 others_separated s [] h = refl
@@ -60,19 +62,19 @@ others_separated s (run ∷ runs) h = others_further s (run ∷ runs) h
 
 others_ended : (s : ℕ) (runs : List (List Part)) → every others runs ≡ true → others (ended s runs) ≡ true
 others_ended s [] h = refl
-others_ended s (run ∷ runs) h = let k = both (others run) (every others runs) h in others_append run (mark s ∷ ended s runs) k.left (others_ended s runs k.right)
+others_ended s (run ∷ runs) h = let k = and_parts (others run) (every others runs) h in others_append run (mark s ∷ ended s runs) k.0 (others_ended s runs k.1)
 
 others_runs : {A : Type 0} (run : A → List Part) → ((x : A) → others (run x) ≡ true) → (xs : List A) → every others (map run xs) ≡ true
 others_runs run each [] = refl
-others_runs run each (x ∷ xs) = and_both (each x) (others_runs run each xs)
+others_runs run each (x ∷ xs) = both_true (each x) (others_runs run each xs)
 
 -- rows of one kind that is no indicator's, an element of a segment, a segment
 others_each : (k f : ℕ) → not (leb k indicator_row) ≡ true → (ps : List Bytes) → every others (rowed_each k f ps) ≡ true
-others_each k f not_first ps = others_runs (λ bs. rowed k f bs ∷ []) (λ p. and_both not_first refl) ps
+others_each k f not_first ps = others_runs (λ bs. rowed k f bs ∷ []) (λ p. both_true not_first refl) ps
 
 others_element : (k f : ℕ) → not (leb k indicator_row) ≡ true → (e : Element) → others (element_parts k f e) ≡ true
 others_element k f not_first [] = refl
-others_element k f not_first (s ∷ ss) = and_both not_first (others_further US (rowed_each sub_element_row f ss) (others_each sub_element_row f refl ss))
+others_element k f not_first (s ∷ ss) = both_true not_first (others_further US (rowed_each sub_element_row f ss) (others_each sub_element_row f refl ss))
 
 others_segment : (f : ℕ) (s : Segment) → others (segment_parts f s) ≡ true
 others_segment f [] = refl
@@ -108,9 +110,9 @@ one_indicator (counted f vs n payload) =
 counting_others : (n : ℕ) (is : List Item) (ks : List ℕ) → every other is ≡ true → counting_on n (item_kinds is ++ ks) ≡ map (λ (i : Item). n) is ++ counting_on n ks
 counting_others n [] ks h = refl
 counting_others n (i ∷ is) ks h =
-    let k = both (other i) (every other is) h in
-    ap (λ t. cond t (suc n) n ∷ counting_on (cond t (suc n) n) (item_kinds is ++ ks)) (not_true (leb i.kind indicator_row) k.left)
-    ∙ ap (λ os. n ∷ os) (counting_others n is ks k.right)
+    let k = and_parts (other i) (every other is) h in
+    ap (λ t. cond t (suc n) n ∷ counting_on (cond t (suc n) n) (item_kinds is ++ ks)) (not-true (leb i.kind indicator_row) k.0)
+    ∙ ap (λ os. n ∷ os) (counting_others n is ks k.1)
 
 -- the kinds of an envelope in front of other parts
 kinds_front : (e : Envelope) (ps : List Part) → kinds_in (parts e ++ ps) ≡ item_kinds (items_of (parts e)) ++ kinds_in ps

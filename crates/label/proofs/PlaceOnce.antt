@@ -1,13 +1,14 @@
 -- A reason and a place that are so for a message are what it is answered with. So there is one of each, and none for a good message.
 use Prim.Native.Nat.{ℕ, zero, suc, ◌+◌, ◌/◌, ◌≤◌, ◌<◌}
 use mathlib.Core.Path.{◌≡◌, refl, sym, ap, ◌∙◌, subst}
-use mathlib.Core.Bool.{Bool, true, false, ◌||◌, cond, true≢false, false≢true}
+use mathlib.Core.Bool.{Bool, true, false, ◌||◌, cond, true≢false, false≢true, not}
 use mathlib.Core.Logic.{inl, inr}
 use mathlib.Core.List.{List, [], ◌∷◌, ◌++◌}
 use native.Mathlib.Omega.{arith}
-use borrow.Author.Tests.{le-ltb, lt-ltb, ne_eqb}
+use borrow.Author.Tests.{le-ltb, lt-ltb, ne_eqb, not-true}
 use lib.ListN.{length, drop, length-append}
 use lib.Dec.{eqb, ltb}
+use Rattle.std.proofs.lemmas.Bool.{or_right}
 use Rattle.label.specs.declared.Reason.{Reason}
 use Rattle.label.specs.declared.Reason.TheVariants.{TooLong, NoMessageHeader, NoIndicator, NoTrailer, BytesAfterTrailer, UnknownFormat, NotFirst, BadFormatHeader, PayloadDoesNotFit, ByteNotPermitted, BodyBreaksRules, NoRecordSeparator, TooManyRows, NoRoom, BadFieldCount, FieldTooShort, FieldTooLong, BadFieldBytes}
 use Rattle.label.specs.Bytes.{Bytes, EOT, RS, is_empty}
@@ -20,7 +21,6 @@ use Rattle.label.specs.Message.{header, rows_of, Good}
 use Rattle.label.specs.ReadEnvelope.{Step, refuse, refuse_at, read_envelope}
 use Rattle.label.specs.ReadMessage.{Outcome, read, refused, place_of, after_trailer, at_boundary, follow, walk, enough, agreement, within_rows, reading}
 use Rattle.label.specs.Place.{in_front, Front, goes_on, AtEnvelope, AtPiece, AtEnd, BehindTrailer, TooManyFor, PlaceFor}
-use Rattle.label.proofs.Tests.{or_right, not_true, not_false}
 use Rattle.label.proofs.Laid.{format_of, bytes_envelope}
 use Rattle.label.proofs.FaultComplete.{fault_pass}
 use Rattle.label.proofs.MessageBytes.{closed_bytes, front_bytes}
@@ -57,7 +57,7 @@ module _ (edition : Edition) (m : Bytes) where
 
   goes_on_lem : (next : Bytes → Outcome) (rest : Bytes) → goes_on rest ≡ true → at_boundary m next rest ≡ next rest
   goes_on_lem next [] on = absurd (false≢true on)
-  goes_on_lem next (b ∷ bs) on = by (eqb b EOT) (not_true (eqb b EOT) on)
+  goes_on_lem next (b ∷ bs) on = by (eqb b EOT) (not-true (eqb b EOT) on)
     where
       by : (t : Bool) → t ≡ false → ◌≡◌ {A = Outcome} (elim t [ true ↦ after_trailer m bs | false ↦ next (b ∷ bs) ]) (next (b ∷ bs))
       by true is = absurd (true≢false is)
@@ -79,13 +79,13 @@ module _ (edition : Edition) (m : Bytes) where
 
   -- an envelope begins with a digit
   envelope_goes_on : (e : Envelope) (rest : Bytes) → goes_on (bytes_of (parts e) ++ rest) ≡ true
-  envelope_goes_on e rest = ap (λ x. goes_on (x ++ rest)) (bytes_envelope e) ∙ not_false (ne_eqb (0x30 + format_of e / 10) EOT (λ same. omega arith))
+  envelope_goes_on e rest = ap (λ x. goes_on (x ++ rest)) (bytes_envelope e) ∙ ap not (ne_eqb (0x30 + format_of e / 10) EOT (λ same. omega arith))
 
   at_piece : (r : Reason) (p : ℕ) → AtPiece edition m r p → reading edition m ≡ refused r p
   at_piece r p at =
       let refuses = fault_pass edition (is_empty at.before) at.envelope at.left r at.ahead at.fault at.in_place in
       due_refused at.before (bytes_of (parts at.envelope) ++ (RS ∷ at.left)) (refuse_at r refuses.from) r p at.front at.short
-      (or_right (is_empty at.before) (envelope_goes_on at.envelope (RS ∷ at.left))) refuses.is
+      (or_right (is_empty at.before) _ (envelope_goes_on at.envelope (RS ∷ at.left))) refuses.is
       (λ next. ap (refused r) (place refuses.from refuses.bytes))
     where
       place : (from : Bytes) → length (bytes_of (parts at.envelope) ++ (RS ∷ at.left)) ≡ length at.ahead + length from → place_of m from ≡ p

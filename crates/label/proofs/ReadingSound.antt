@@ -5,9 +5,10 @@ use mathlib.Core.Bool.{Bool, true, false, not, cond}
 use mathlib.Core.Logic.{◌⊎◌, inl, inr}
 use mathlib.Core.List.{List, [], ◌∷◌, ◌++◌}
 use native.Mathlib.Omega.{arith}
-use borrow.Author.Tests.{eqb-true, ltb-true, ltb-false}
+use borrow.Author.Tests.{eqb-true, ltb-true, ltb-false, not-true}
 use lib.ListN.{length, drop, length-append}
 use lib.Dec.{eqb, ltb}
+use Rattle.std.proofs.lemmas.Bool.{and_parts, or_left, or_right}
 use Rattle.label.specs.declared.Reason.TheVariants.{TooLong, NoMessageHeader, TooManyRows}
 use Rattle.label.specs.Bytes.{Bytes, every}
 use Rattle.label.specs.Limits.{longest, most_rows}
@@ -16,7 +17,6 @@ use Rattle.label.specs.Envelope.{Envelope}
 use Rattle.label.specs.Message.{header, is_rest, is_rest_alone, rows_of, Good}
 use Rattle.label.specs.Place.{GoodButForRows, PlaceFor}
 use Rattle.label.specs.ReadMessage.{Outcome, read, refused, walk, enough, agreement, within_rows, reading}
-use Rattle.label.proofs.Tests.{both, or_left, or_right, not_true}
 use Rattle.label.proofs.MessageBytes.{message_closed, message_alone}
 use Rattle.label.proofs.Placed.{only_first_lem, no_rest_lem}
 use Rattle.label.proofs.WalkSound.{Alone, AllClosed, WalkSo, walk_so}
@@ -36,7 +36,7 @@ begins (h ∷ hs) (b ∷ bs) agrees = agreement_by (eqb b h) h b hs bs refl agre
 
 pub not_alone : (es : List Envelope) → every (λ e. not (is_rest e)) es ≡ true → is_rest_alone es ≡ false
 not_alone [] h = refl
-not_alone (e ∷ []) h = not_true (is_rest e) (both (not (is_rest e)) true h).left
+not_alone (e ∷ []) h = not-true (is_rest e) (and_parts (not (is_rest e)) true h).0
 not_alone (e ∷ (e' ∷ es)) h = refl
 
 -- The whole
@@ -63,7 +63,7 @@ module _ (edition : Edition) (m : Bytes) (bs : Bytes) (short : length m ≤ long
     one_or_more = all.one_or_more;
     within = all.within;
     only_first = only_first_lem es all.in_place;
-    only_alone = or_right (is_rest_alone es) (no_rest_lem true es all.in_place);
+    only_alone = or_right (is_rest_alone es) _ (no_rest_lem true es all.in_place);
     not_too_long = short;
     writes_out = message_closed es (not_alone es (no_rest_lem true es all.in_place)) ∙ sym (begun ∙ ap (λ x. header ++ x) all.bytes);
   }
@@ -73,7 +73,7 @@ module _ (edition : Edition) (m : Bytes) (bs : Bytes) (short : length m ≤ long
     one_or_more = refl;
     within = (a.within, tt);
     only_first = refl;
-    only_alone = or_left _ a.takes_rest;
+    only_alone = or_left _ _ a.takes_rest;
     not_too_long = short;
     writes_out = message_alone a.one a.takes_rest ∙ sym (begun ∙ ap (λ x. header ++ x) a.bytes);
   }

@@ -5,8 +5,10 @@ use mathlib.Core.Path.{◌≡◌, refl, sym, ap, ◌∙◌, subst, subst⁻¹}
 use mathlib.Core.Bool.{Bool, true, false, not, ◌||◌, cond, false≢true, true≢false}
 use mathlib.Core.List.{List, [], ◌∷◌, ◌++◌, map, append_assoc}
 use native.Mathlib.Omega.{arith}
-use borrow.Author.Tests.{le-leb, ne_eqb}
+use borrow.Author.Tests.{le-leb, ne_eqb, not-true}
 use lib.ListN.{drop}
+use Rattle.std.proofs.lemmas.Bool.{and_parts}
+use Rattle.std.specs.Cmp.Derive.{both_true}
 use Rattle.label.specs.declared.Limit.{Limit}
 use Rattle.label.specs.Bytes.{Bytes, EOT, FS, GS, RS, US, every, is_empty}
 use Rattle.label.specs.Values.{version_digits, header_values}
@@ -18,7 +20,6 @@ use Rattle.label.specs.Envelope.{Envelope, fields, whole_rest, segments, element
 use Rattle.label.specs.Written.{indicator_row, value_row, piece_row, tag_row, element_row, sub_element_row, body_row, rowed, rowed_each, two_digits, indicator, element_parts, segment_parts, value_parts, parts}
 use Rattle.label.specs.Message.{header, is_rest, is_rest_alone, message_parts, message, Each, Good}
 use Rattle.label.specs.Rendered.{before_value, closing, marks_between, ending, rendered_after, rendered}
-use Rattle.label.proofs.Tests.{both, and_both, not_true}
 use Rattle.label.proofs.Editions.{known_in_widest}
 use Rattle.label.proofs.Laid.{bytes_append, bytes_marks, format_of}
 
@@ -88,7 +89,7 @@ module _ (edition : Edition) where
     elements_behind ([] ∷ es) tail plains behind p least most = absurd (false≢true plains)
     elements_behind ((s ∷ ss) ∷ es) tail plains behind p least most =
         let later = further GS (map (element_parts element_row f) es) in
-        let next = elements_behind es tail (both (plain_element (s ∷ ss)) (every plain_element es) plains).right behind in
+        let next = elements_behind es tail (and_parts (plain_element (s ∷ ss)) (every plain_element es) plains).1 behind in
         subst⁻¹ (λ (ps : List Part). Behind p f (mark GS ∷ rowed element_row f s ∷ ps)) (append_assoc (further US (rowed_each sub_element_row f ss)) later tail)
         (row_behind p f element_row f (GS ∷ []) s (further US (rowed_each sub_element_row f ss) ++ (later ++ tail)) refl
         (rows_behind element_row sub_element_row US (later ++ tail) ss refl refl (next element_row (omega arith) (omega arith)) (next sub_element_row (omega arith) (omega arith))))
@@ -100,7 +101,7 @@ module _ (edition : Edition) where
     segment_behind p ms is_tag ([] ∷ es) tail asked plains tag behind = absurd (false≢true tag)
     segment_behind p ms is_tag ((t ∷ []) ∷ es) tail asked plains tag behind =
         row_behind p f tag_row f ms t (further GS (map (element_parts element_row f) es) ++ tail) asked
-        (elements_behind es tail (both (plain_element (t ∷ [])) (every plain_element es) plains).right behind tag_row (omega arith) (omega arith))
+        (elements_behind es tail (and_parts (plain_element (t ∷ [])) (every plain_element es) plains).1 behind tag_row (omega arith) (omega arith))
     segment_behind p ms is_tag ((t ∷ (s ∷ ss)) ∷ es) tail asked plains tag behind = absurd (false≢true tag)
 
     -- the FS that ends a segment, and the segments behind it
@@ -110,11 +111,11 @@ module _ (edition : Edition) where
     segments_behind is_tag [] tail plains tags behind p least most = behind p least most
     segments_behind is_tag (s ∷ ss) tail plains tags behind p least most =
         let later = mark FS ∷ ended FS (map (segment_parts f) ss) in
-        let k = both (every plain_element s) (every (every plain_element) ss) plains in
-        let l = both (tagged is_tag s) (every (tagged is_tag) ss) tags in
+        let k = and_parts (every plain_element s) (every (every plain_element) ss) plains in
+        let l = and_parts (tagged is_tag s) (every (tagged is_tag) ss) tags in
         subst⁻¹ (λ (ps : List Part). Behind p f (mark FS ∷ ps)) (append_assoc (segment_parts f s) later tail)
-        (segment_behind p (FS ∷ []) is_tag s (later ++ tail) (ap (λ t. cond t (FS ∷ GS ∷ US ∷ []) (FS ∷ [])) (ne_eqb p value_row (λ is. omega arith))) k.left l.left
-        (segments_behind is_tag ss tail k.right l.right behind))
+        (segment_behind p (FS ∷ []) is_tag s (later ++ tail) (ap (λ t. cond t (FS ∷ GS ∷ US ∷ []) (FS ∷ [])) (ne_eqb p value_row (λ is. omega arith))) k.0 l.0
+        (segments_behind is_tag ss tail k.1 l.1 behind))
 
   -- Envelopes
 
@@ -125,7 +126,7 @@ module _ (edition : Edition) where
   -- the kind of a row that a segment ends with asks for FS before the RS
   segment_closes : (f : ℕ) (rest : List Part) → BehindEnvelope f rest → BehindSegment f (mark FS ∷ mark RS ∷ rest)
   segment_closes f rest behind p least most =
-      subst (λ (t : Bool). Behind p f (marks (cond t (FS ∷ RS ∷ []) (RS ∷ [])) ++ rest)) (and_both (le-leb tag_row p least) (le-leb p sub_element_row most)) (behind p)
+      subst (λ (t : Bool). Behind p f (marks (cond t (FS ∷ RS ∷ []) (RS ∷ [])) ++ rest)) (both_true (le-leb tag_row p least) (le-leb p sub_element_row most)) (behind p)
 
   -- header values, the count and the payload stand as they are rendered behind an indicator
   module _ (f : ℕ) (n payload : Bytes) (rest : List Part) (behind : Behind body_row f (mark RS ∷ rest)) where
@@ -164,12 +165,12 @@ module _ (edition : Edition) where
   envelope_behind (segments f h []) rest w closed behind = absurd (true≢false w.one_or_more)
   envelope_behind (segments f h (s ∷ ss)) rest w closed behind =
       let later = mark FS ∷ ended FS (map (segment_parts f) ss) in
-      let k = both (every plain_element s) (every (every plain_element) ss) w.plain_bytes in
-      let l = both (tagged w.is_tag s) (every (tagged w.is_tag) ss) w.all_tagged in
+      let k = and_parts (every plain_element s) (every (every plain_element) ss) w.plain_bytes in
+      let l = and_parts (tagged w.is_tag s) (every (tagged w.is_tag) ss) w.all_tagged in
       subst⁻¹ (λ (ps : List Part). Behind indicator_row f (rowed value_row f h ∷ mark FS ∷ mark GS ∷ mark US ∷ ps)) (append_assoc (segment_parts f s) later (mark RS ∷ rest))
       (row_behind indicator_row f value_row f [] h (mark FS ∷ mark GS ∷ mark US ∷ (segment_parts f s ++ (later ++ (mark RS ∷ rest)))) (ap before_value (known_in_widest edition f _ w.known refl))
-      (segment_behind f value_row (FS ∷ GS ∷ US ∷ []) w.is_tag s (later ++ (mark RS ∷ rest)) refl k.left l.left
-      (segments_behind f w.is_tag ss (mark RS ∷ rest) k.right l.right (segment_closes f rest behind))))
+      (segment_behind f value_row (FS ∷ GS ∷ US ∷ []) w.is_tag s (later ++ (mark RS ∷ rest)) refl k.0 l.0
+      (segments_behind f w.is_tag ss (mark RS ∷ rest) k.1 l.1 (segment_closes f rest behind))))
   envelope_behind (elements f []) rest w closed behind = absurd (true≢false w.one_or_more)
   envelope_behind (elements f (p ∷ ps)) rest w closed behind = pieces_behind f indicator_row (GS ∷ []) p ps (mark RS ∷ rest) refl (behind piece_row)
   envelope_behind (text f body) rest w closed behind = row_behind indicator_row f body_row f [] body (mark RS ∷ rest) refl (behind body_row)
@@ -190,27 +191,27 @@ module _ (edition : Edition) where
   envelopes_behind : (e : Envelope) (es : List Envelope) → Each (Within edition) (e ∷ es) → every (λ e. not (is_rest e)) (e ∷ es) ≡ true → BehindEnvelope (format_of e) (to_end es)
   unfolding marks_between rendered_after
   envelopes_behind e [] within closed k before =
-      let c = both (not (is_rest e)) true closed in
+      let c = and_parts (not (is_rest e)) true closed in
       bytes_append (marks (closing k)) (mark EOT ∷ [])
       ∙ ap (λ ms. ms ++ (EOT ∷ [])) (bytes_marks (closing k))
-      ∙ sym (ends e within.0 (not_true (is_rest e) c.left) k)
+      ∙ sym (ends e within.0 (not-true (is_rest e) c.0) k)
       ∙ ap (rendered_after (record { kind = k; format = format_of e; content = before })) (sym (items_behind_marks (closing k) (mark EOT ∷ [])))
   envelopes_behind e (e' ∷ es) within closed k before =
-      let c = both (not (is_rest e)) (every (λ e. not (is_rest e)) (e' ∷ es)) closed in
-      let c' = both (not (is_rest e')) (every (λ e. not (is_rest e)) es) c.right in
+      let c = and_parts (not (is_rest e)) (every (λ e. not (is_rest e)) (e' ∷ es)) closed in
+      let c' = and_parts (not (is_rest e')) (every (λ e. not (is_rest e)) es) c.1 in
       subst⁻¹ (λ (ps : List Part). Behind k (format_of e) (marks (closing k) ++ ps)) (to_end_cons e' es)
       (row_behind k (format_of e) indicator_row (format_of e') (closing k) (two_digits (format_of e')) (inner e' ++ (mark RS ∷ to_end es)) refl
-      (envelope_behind e' (to_end es) within.1.0 (not_true (is_rest e') c'.left) (envelopes_behind e' es within.1 c.right))) before
+      (envelope_behind e' (to_end es) within.1.0 (not-true (is_rest e') c'.0) (envelopes_behind e' es within.1 c.1))) before
 
   -- a message that ends with EOT, and one whose envelope takes all the rest
   closed_rendered : (e : Envelope) (es : List Envelope) → Each (Within edition) (e ∷ es) → every (λ e. not (is_rest e)) (e ∷ es) ≡ true
       → rendered (items_of (marks header ++ to_end (e ∷ es))) ≡ bytes_of (marks header ++ to_end (e ∷ es))
   unfolding rendered
   closed_rendered e es within closed =
-      let c = both (not (is_rest e)) (every (λ e. not (is_rest e)) es) closed in
+      let c = and_parts (not (is_rest e)) (every (λ e. not (is_rest e)) es) closed in
       subst⁻¹ (λ (ps : List Part). rendered (items_of (marks header ++ ps)) ≡ bytes_of (marks header ++ ps)) (to_end_cons e es)
       (ap (λ r. header ++ (two_digits (format_of e) ++ r))
-      (sym (envelope_behind e (to_end es) within.0 (not_true (is_rest e) c.left) (envelopes_behind e es within closed) (two_digits (format_of e)))))
+      (sym (envelope_behind e (to_end es) within.0 (not-true (is_rest e) c.0) (envelopes_behind e es within closed) (two_digits (format_of e)))))
 
   alone_rendered : (e : Envelope) → Within edition e → is_rest e ≡ true → rendered (items_of (marks header ++ (parts e ++ []))) ≡ bytes_of (marks header ++ (parts e ++ []))
   unfolding rendered rendered_after marks_between parts

@@ -9,6 +9,8 @@ use borrow.Author.Tests.{le-leb, eqb-true, eq-eqb}
 use lib.ListN.{length, take, drop, length-append}
 use lib.Seq.{take-append_seam, drop-append_seam, drop-drop, take_at}
 use lib.Dec.{eqb}
+use Rattle.std.proofs.lemmas.Bool.{and_parts}
+use Rattle.std.specs.Cmp.Derive.{both_true}
 use Rattle.label.specs.Bytes.{Bytes, every, same_bytes}
 use Rattle.label.specs.Limits.{most_rows, row_width}
 use Rattle.label.specs.declared.Edition.{Edition}
@@ -17,7 +19,7 @@ use Rattle.label.specs.Envelope.{Envelope}
 use Rattle.label.specs.Message.{message_parts, message, rows_of, ordinals_of, numbers_of, Each, Good}
 use Rattle.label.specs.Answer.{room_of, table_after}
 use Rattle.label.specs.Writing.{rows_in, ordinals_in, inside, rows_stand, item_in, items_in, same_item, same_items}
-use Rattle.label.proofs.Tests.{both, and_both, same_bytes_lem, bytes_same}
+use Rattle.label.proofs.Tests.{same_bytes_lem, bytes_same}
 use Rattle.label.proofs.Ordinals.{ordinals_long}
 use Rattle.label.proofs.Answers.{numbers_of_wide, filled_with_room}
 use Rattle.label.proofs.ReadingComplete.{reading_pass}
@@ -76,34 +78,34 @@ ordinals_in_numbers_of es = ordinals_in_numbers (rows_of es) (ordinals_of es) (o
 same_item_lem : (i j : Item) → same_item i j ≡ true → i ≡ j
 unfolding same_item
 same_item_lem i j h =
-    let k = both (eqb i.kind j.kind && eqb i.format j.format) (same_bytes i.content j.content) h in
-    let l = both (eqb i.kind j.kind) (eqb i.format j.format) k.left in
-    let kind = eqb-true i.kind j.kind l.left in
-    let format = eqb-true i.format j.format l.right in
-    let content = same_bytes_lem i.content j.content k.right in
+    let k = and_parts (eqb i.kind j.kind && eqb i.format j.format) (same_bytes i.content j.content) h in
+    let l = and_parts (eqb i.kind j.kind) (eqb i.format j.format) k.0 in
+    let kind = eqb-true i.kind j.kind l.0 in
+    let format = eqb-true i.format j.format l.1 in
+    let content = same_bytes_lem i.content j.content k.1 in
     λ t. record { kind = kind t; format = format t; content = content t }
 
 item_same : (i : Item) → same_item i i ≡ true
 unfolding same_item
-item_same i = and_both (and_both (eq-eqb i.kind i.kind refl) (eq-eqb i.format i.format refl)) (bytes_same i.content)
+item_same i = both_true (both_true (eq-eqb i.kind i.kind refl) (eq-eqb i.format i.format refl)) (bytes_same i.content)
 
 pub same_items_lem : (is js : List Item) → same_items is js ≡ true → is ≡ js
 same_items_lem [] [] h = refl
 same_items_lem [] (j ∷ js) h = absurd (false≢true h)
 same_items_lem (i ∷ is) [] h = absurd (false≢true h)
 same_items_lem (i ∷ is) (j ∷ js) h =
-    let k = both (same_item i j) (same_items is js) h in
-    λ t. same_item_lem i j k.left t ∷ same_items_lem is js k.right t
+    let k = and_parts (same_item i j) (same_items is js) h in
+    λ t. same_item_lem i j k.0 t ∷ same_items_lem is js k.1 t
 
 pub items_same : (is : List Item) → same_items is is ≡ true
 items_same [] = refl
-items_same (i ∷ is) = and_both (item_same i) (items_same is)
+items_same (i ∷ is) = both_true (item_same i) (items_same is)
 
 -- Rows of a good message
 
 each_passes : {A : Type 0} (Fact : A → Type 0) (test : A → Bool) → ((x : A) → Fact x → test x ≡ true) → (xs : List A) → Each Fact xs → every test xs ≡ true
 each_passes Fact test passes [] facts = refl
-each_passes Fact test passes (x ∷ xs) facts = and_both (passes x facts.0) (each_passes Fact test passes xs facts.1)
+each_passes Fact test passes (x ∷ xs) facts = both_true (passes x facts.0) (each_passes Fact test passes xs facts.1)
 
 module _ (edition : Edition) (m : Bytes) (es : List Envelope) (good : Good edition m es) where
   all_inside : every (inside m) (rows_of es) ≡ true
@@ -119,7 +121,7 @@ module _ (edition : Edition) (m : Bytes) (es : List Envelope) (good : Good editi
       let ns = numbers_of es in
       let wide = numbers_of_wide es in
       let few = good.not_too_many in
-      and_both (and_both (eq-eqb (length ns % row_width) 0 (omega arith)) (le-leb (length ns / row_width) most_rows (omega arith)))
+      both_true (both_true (eq-eqb (length ns % row_width) 0 (omega arith)) (le-leb (length ns / row_width) most_rows (omega arith)))
       (ap (every (inside m)) (rows_in_numbers_of es) ∙ all_inside)
 
   -- they name the message's items

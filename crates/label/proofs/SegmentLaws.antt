@@ -5,13 +5,16 @@ use mathlib.Core.Path.{◌≡◌, refl, ap, ◌∙◌}
 use mathlib.Core.Bool.{Bool, true, false, not, ◌||◌, true≢false, false≢true}
 use mathlib.Core.List.{List, [], ◌∷◌, ◌++◌, map}
 use native.Mathlib.Omega.{arith}
+use borrow.Author.Tests.{not-true}
 use lib.Dec.{eqb}
+use Rattle.std.proofs.lemmas.Bool.{and_parts, or_left, or_right}
+use Rattle.std.specs.Cmp.Derive.{both_true}
 use Rattle.label.specs.Bytes.{Bytes, FS, GS, US, plain, every, is_empty}
 use Rattle.label.specs.Pieces.{pieces, last_is_empty, without_last}
 use Rattle.label.specs.Segments.{Segment, Element, tagged}
 use Rattle.label.specs.Envelope.{plain_element}
 use Rattle.label.specs.ReadEnvelope.{segment_byte, segments_in}
-use Rattle.label.proofs.Tests.{both, and_both, or_left, or_right, or_not, free, free_of, Without, without_or, without_one, plain_without, not_true, not_false, Implies, every_implies}
+use Rattle.label.proofs.Tests.{or_not, free, free_of, Without, without_or, without_one, plain_without, Implies, every_implies}
 use Rattle.label.proofs.Splitting.{joined, terminated, joined_pieces, pieces_some, terminated_without_last, every_pieces, pieces_of_joined, pieces_of_terminated, without_last_of_terminated, every_joined, every_terminated}
 use Rattle.label.proofs.Laid.{segment_bytes}
 
@@ -58,17 +61,17 @@ every_without_last : (test : Bytes → Bool) (ps : List Bytes) → every test ps
 every_without_last test [] h = refl
 every_without_last test (p ∷ []) h = refl
 every_without_last test (p ∷ (q ∷ ps)) h =
-    let k = both (test p) (every test (q ∷ ps)) h in
-    and_both k.left (every_without_last test (q ∷ ps) k.right)
+    let k = and_parts (test p) (every test (q ∷ ps)) h in
+    both_true k.0 (every_without_last test (q ∷ ps) k.1)
 
 every_map : {A B : Type 0} (f : A → B) (p : A → Bool) (q : B → Bool) → ((x : A) → p x ≡ true → q (f x) ≡ true) → (xs : List A) → every p xs ≡ true → every q (map f xs) ≡ true
 every_map f p q h [] e = refl
 every_map f p q h (x ∷ xs) e =
-    let k = both (p x) (every p xs) e in
-    and_both (h x k.left) (every_map f p q h xs k.right)
+    let k = and_parts (p x) (every p xs) e in
+    both_true (h x k.0) (every_map f p q h xs k.1)
 
 plain_element_lem : (bs : Bytes) → every in_element bs ≡ true → plain_element (pieces US bs) ≡ true
-plain_element_lem bs h = and_both (not_false (pieces_some US bs)) (every_pieces in_element plain US (λ b. or_not (plain b) (eqb b US)) bs h)
+plain_element_lem bs h = both_true (ap not (pieces_some US bs)) (every_pieces in_element plain US (λ b. or_not (plain b) (eqb b US)) bs h)
 
 plain_segment : (bs : Bytes) → every in_segment bs ≡ true → every plain_element (segment_cut bs) ≡ true
 plain_segment bs h =
@@ -86,19 +89,19 @@ plain_segments body h =
 
 element_bytes : (e : Element) → plain_element e ≡ true → every in_element (joined US e) ≡ true
 element_bytes e h =
-    let k = both (not (is_empty e)) (every (every plain) e) h in
-    every_joined in_element US e (or_right (plain US) refl) (every_implies (every plain) (every in_element) (every_implies plain in_element (λ b p. or_left (eqb b US) p)) e k.right)
+    let k = and_parts (not (is_empty e)) (every (every plain) e) h in
+    every_joined in_element US e (or_right (plain US) _ refl) (every_implies (every plain) (every in_element) (every_implies plain in_element (λ b p. or_left _ (eqb b US) p)) e k.1)
 
 element_again : (e : Element) → plain_element e ≡ true → pieces US (joined US e) ≡ e
 element_again e h =
-    let k = both (not (is_empty e)) (every (every plain) e) h in
-    pieces_of_joined US e (not_true (is_empty e) k.left) (every_implies (every plain) (free US) (free_of US plain (plain_without US (omega arith))) e k.right)
+    let k = and_parts (not (is_empty e)) (every (every plain) e) h in
+    pieces_of_joined US e (not-true (is_empty e) k.0) (every_implies (every plain) (free US) (free_of US plain (plain_without US (omega arith))) e k.1)
 
 elements_again : (es : List Element) → every plain_element es ≡ true → map (pieces US) (map (joined US) es) ≡ es
 elements_again [] h = refl
 elements_again (e ∷ es) h =
-    let k = both (plain_element e) (every plain_element es) h in
-    λ i. element_again e k.left i ∷ elements_again es k.right i
+    let k = and_parts (plain_element e) (every plain_element es) h in
+    λ i. element_again e k.0 i ∷ elements_again es k.1 i
 
 in_element_without : Without GS in_element
 in_element_without = without_or GS plain (λ b. eqb b US) (plain_without GS (omega arith)) (without_one GS US refl)
@@ -128,7 +131,7 @@ segment_in_body b h = or_between (plain b) (eqb b FS) (eqb b GS) (eqb b US) h
 
 segment_bytes_lem : (s : Segment) → every plain_element s ≡ true → every in_segment (segment_bytes s) ≡ true
 segment_bytes_lem s h =
-    every_joined in_segment GS (map (joined US) s) (or_left (eqb GS US) (or_right (plain GS) refl))
+    every_joined in_segment GS (map (joined US) s) (or_left _ (eqb GS US) (or_right (plain GS) _ refl))
     (every_map (joined US) plain_element (every in_segment) (λ e p. every_implies in_element in_segment element_in_segment (joined US e) (element_bytes e p)) s h)
 
 some_map : {A B : Type 0} (f : A → B) (xs : List A) → is_empty xs ≡ false → is_empty (map f xs) ≡ false
@@ -150,9 +153,9 @@ segment_again s some h =
 each_segment_again : (is_tag : Bytes → Bool) (ss : List Segment) → every (every plain_element) ss ≡ true → every (tagged is_tag) ss ≡ true → map segment_cut (map segment_bytes ss) ≡ ss
 each_segment_again is_tag [] h t = refl
 each_segment_again is_tag (s ∷ ss) h t =
-    let k = both (every plain_element s) (every (every plain_element) ss) h in
-    let l = both (tagged is_tag s) (every (tagged is_tag) ss) t in
-    λ i. segment_again s (tagged_some is_tag s l.left) k.left i ∷ each_segment_again is_tag ss k.right l.right i
+    let k = and_parts (every plain_element s) (every (every plain_element) ss) h in
+    let l = and_parts (tagged is_tag s) (every (tagged is_tag) ss) t in
+    λ i. segment_again s (tagged_some is_tag s l.0) k.0 i ∷ each_segment_again is_tag ss k.1 l.1 i
 
 -- the body of segments
 abbrev pub body_of : List Segment → Bytes
@@ -161,7 +164,7 @@ body_of ss = terminated FS (map segment_bytes ss)
 pub body_bytes : (ss : List Segment) → every (every plain_element) ss ≡ true → every segment_byte (body_of ss) ≡ true
 unfolding segment_byte
 body_bytes ss h =
-    every_terminated segment_byte FS (map segment_bytes ss) (or_left (eqb FS US) (or_left (eqb FS GS) (or_right (plain FS) refl)))
+    every_terminated segment_byte FS (map segment_bytes ss) (or_left _ (eqb FS US) (or_left _ (eqb FS GS) (or_right (plain FS) _ refl)))
     (every_map segment_bytes (every plain_element) (every segment_byte) (λ s p. every_implies in_segment segment_byte segment_in_body (segment_bytes s) (segment_bytes_lem s p)) ss h)
 
 pub body_pieces : (ss : List Segment) → every (every plain_element) ss ≡ true → pieces FS (body_of ss) ≡ map segment_bytes ss ++ ([] ∷ [])

@@ -3,11 +3,13 @@ use Prim.Native.Nat.{ℕ}
 use mathlib.Core.Path.{◌≡◌, refl, sym, ap, ◌∙◌}
 use mathlib.Core.Bool.{Bool, true, false, not, false≢true, true≢false}
 use mathlib.Core.List.{List, [], ◌∷◌, ◌++◌, append-nil}
-use borrow.Author.Tests.{eqb-true, eq-eqb}
+use borrow.Author.Tests.{eqb-true, eq-eqb, not-true}
 use lib.Dec.{eqb}
+use Rattle.std.proofs.lemmas.Bool.{and_parts}
+use Rattle.std.specs.Cmp.Derive.{both_true}
 use Rattle.label.specs.Bytes.{Bytes, every, is_empty}
 use Rattle.label.specs.Pieces.{piece_with, pieces, last_is_empty, without_last, Cut, found, absent, cut_with, cut}
-use Rattle.label.proofs.Tests.{both, and_both, free, not_true, not_false, every_append}
+use Rattle.label.proofs.Tests.{free, every_append}
 
 -- pieces behind separators; pieces joined
 abbrev pub behind : ℕ → List Bytes → Bytes
@@ -22,9 +24,6 @@ joined c (p ∷ ps) = p ++ behind c ps
 abbrev pub terminated : ℕ → List Bytes → Bytes
 terminated c [] = []
 terminated c (p ∷ ps) = p ++ (c ∷ terminated c ps)
-
-eqb_self : (c : ℕ) → eqb c c ≡ true
-eqb_self c = eq-eqb c c refl
 
 -- the pieces of bytes: at least one
 some_with : (t : Bool) (b : ℕ) (ps : List Bytes) → is_empty (piece_with t b ps) ≡ false
@@ -51,34 +50,34 @@ joined_pieces c (b ∷ bs) = joined_with (eqb b c) c b (pieces c bs) (pieces_som
 pub pieces_one : (c : ℕ) (p : Bytes) → free c p ≡ true → pieces c p ≡ p ∷ []
 pieces_one c [] h = refl
 pieces_one c (b ∷ bs) h =
-    let k = both (not (eqb b c)) (free c bs) h in
-    ap (λ t. piece_with t b (pieces c bs)) (not_true (eqb b c) k.left) ∙ ap (piece_with false b) (pieces_one c bs k.right)
+    let k = and_parts (not (eqb b c)) (free c bs) h in
+    ap (λ t. piece_with t b (pieces c bs)) (not-true (eqb b c) k.0) ∙ ap (piece_with false b) (pieces_one c bs k.1)
 
 pub pieces_front : (c : ℕ) (p rest : Bytes) → free c p ≡ true → pieces c (p ++ (c ∷ rest)) ≡ p ∷ pieces c rest
-pieces_front c [] rest h = ap (λ t. piece_with t c (pieces c rest)) (eqb_self c)
+pieces_front c [] rest h = ap (λ t. piece_with t c (pieces c rest)) (eq-eqb c c refl)
 pieces_front c (b ∷ bs) rest h =
-    let k = both (not (eqb b c)) (free c bs) h in
-    ap (λ t. piece_with t b (pieces c (bs ++ (c ∷ rest)))) (not_true (eqb b c) k.left) ∙ ap (piece_with false b) (pieces_front c bs rest k.right)
+    let k = and_parts (not (eqb b c)) (free c bs) h in
+    ap (λ t. piece_with t b (pieces c (bs ++ (c ∷ rest)))) (not-true (eqb b c) k.0) ∙ ap (piece_with false b) (pieces_front c bs rest k.1)
 
 -- cut again, joined pieces are the pieces
 pieces_behind : (c : ℕ) (p : Bytes) (ps : List Bytes) → free c p ≡ true → every (free c) ps ≡ true → pieces c (p ++ behind c ps) ≡ p ∷ ps
 pieces_behind c p [] h hs = ap (pieces c) (append-nil p) ∙ pieces_one c p h
 pieces_behind c p (q ∷ qs) h hs =
-    let k = both (free c q) (every (free c) qs) hs in
-    pieces_front c p (q ++ behind c qs) h ∙ ap (λ r. p ∷ r) (pieces_behind c q qs k.left k.right)
+    let k = and_parts (free c q) (every (free c) qs) hs in
+    pieces_front c p (q ++ behind c qs) h ∙ ap (λ r. p ∷ r) (pieces_behind c q qs k.0 k.1)
 
 pub pieces_of_joined : (c : ℕ) (ps : List Bytes) → is_empty ps ≡ false → every (free c) ps ≡ true → pieces c (joined c ps) ≡ ps
 pieces_of_joined c [] some h = absurd (true≢false some)
 pieces_of_joined c (p ∷ ps) some h =
-    let k = both (free c p) (every (free c) ps) h in
-    pieces_behind c p ps k.left k.right
+    let k = and_parts (free c p) (every (free c) ps) h in
+    pieces_behind c p ps k.0 k.1
 
 -- pieces with a terminator behind each: cut, one more piece that is empty
 pub pieces_of_terminated : (c : ℕ) (ps : List Bytes) → every (free c) ps ≡ true → pieces c (terminated c ps) ≡ ps ++ ([] ∷ [])
 pieces_of_terminated c [] h = refl
 pieces_of_terminated c (p ∷ ps) h =
-    let k = both (free c p) (every (free c) ps) h in
-    pieces_front c p (terminated c ps) k.left ∙ ap (λ r. p ∷ r) (pieces_of_terminated c ps k.right)
+    let k = and_parts (free c p) (every (free c) ps) h in
+    pieces_front c p (terminated c ps) k.0 ∙ ap (λ r. p ∷ r) (pieces_of_terminated c ps k.1)
 
 pub last_of_terminated : (ps : List Bytes) → last_is_empty (ps ++ ([] ∷ [])) ≡ true
 last_of_terminated [] = refl
@@ -103,10 +102,10 @@ terminated_without_last c (p ∷ (q ∷ ps)) h = ap (λ r. p ++ (c ∷ r)) (term
 -- The first separator
 
 pub cut_front : (c : ℕ) (p rest : Bytes) → free c p ≡ true → cut c (p ++ (c ∷ rest)) ≡ found p rest
-cut_front c [] rest h = ap (λ t. cut_with t c rest (cut c rest)) (eqb_self c)
+cut_front c [] rest h = ap (λ t. cut_with t c rest (cut c rest)) (eq-eqb c c refl)
 cut_front c (b ∷ bs) rest h =
-    let k = both (not (eqb b c)) (free c bs) h in
-    ap (λ t. cut_with t b (bs ++ (c ∷ rest)) (cut c (bs ++ (c ∷ rest)))) (not_true (eqb b c) k.left) ∙ ap (cut_with false b (bs ++ (c ∷ rest))) (cut_front c bs rest k.right)
+    let k = and_parts (not (eqb b c)) (free c bs) h in
+    ap (λ t. cut_with t b (bs ++ (c ∷ rest)) (cut c (bs ++ (c ∷ rest)))) (not-true (eqb b c) k.0) ∙ ap (cut_with false b (bs ++ (c ∷ rest))) (cut_front c bs rest k.1)
 
 -- what a cut says of the bytes
 pub record FirstAt (c : ℕ) (bs p rest : Bytes) : Type 0 where
@@ -119,8 +118,8 @@ CutSo c bs absent = free c bs ≡ true
 
 cut_so_with : (t : Bool) (c b : ℕ) (bs : Bytes) (k : Cut) → eqb b c ≡ t → CutSo c bs k → CutSo c (b ∷ bs) (cut_with t b bs k)
 cut_so_with true c b bs k e h = record { bytes = ap (λ x. x ∷ bs) (eqb-true b c e); none_before = refl }
-cut_so_with false c b bs (found p rest) e h = record { bytes = ap (λ r. b ∷ r) h.bytes; none_before = and_both (not_false e) h.none_before }
-cut_so_with false c b bs absent e h = and_both (not_false e) h
+cut_so_with false c b bs (found p rest) e h = record { bytes = ap (λ r. b ∷ r) h.bytes; none_before = both_true (ap not e) h.none_before }
+cut_so_with false c b bs absent e h = both_true (ap not e) h
 
 pub cut_so : (c : ℕ) (bs : Bytes) → CutSo c bs (cut c bs)
 cut_so c [] = refl
@@ -131,20 +130,20 @@ cut_so c (b ∷ bs) = cut_so_with (eqb b c) c b bs (cut c bs) refl (cut_so c bs)
 every_behind : (test : ℕ → Bool) (c : ℕ) (ps : List Bytes) → test c ≡ true → every (every test) ps ≡ true → every test (behind c ps) ≡ true
 every_behind test c [] hc h = refl
 every_behind test c (p ∷ ps) hc h =
-    let k = both (every test p) (every (every test) ps) h in
-    and_both hc (every_append test p (behind c ps) k.left (every_behind test c ps hc k.right))
+    let k = and_parts (every test p) (every (every test) ps) h in
+    both_true hc (every_append test p (behind c ps) k.0 (every_behind test c ps hc k.1))
 
 pub every_joined : (test : ℕ → Bool) (c : ℕ) (ps : List Bytes) → test c ≡ true → every (every test) ps ≡ true → every test (joined c ps) ≡ true
 every_joined test c [] hc h = refl
 every_joined test c (p ∷ ps) hc h =
-    let k = both (every test p) (every (every test) ps) h in
-    every_append test p (behind c ps) k.left (every_behind test c ps hc k.right)
+    let k = and_parts (every test p) (every (every test) ps) h in
+    every_append test p (behind c ps) k.0 (every_behind test c ps hc k.1)
 
 pub every_terminated : (test : ℕ → Bool) (c : ℕ) (ps : List Bytes) → test c ≡ true → every (every test) ps ≡ true → every test (terminated c ps) ≡ true
 every_terminated test c [] hc h = refl
 every_terminated test c (p ∷ ps) hc h =
-    let k = both (every test p) (every (every test) ps) h in
-    every_append test p (c ∷ terminated c ps) k.left (and_both hc (every_terminated test c ps hc k.right))
+    let k = and_parts (every test p) (every (every test) ps) h in
+    every_append test p (c ∷ terminated c ps) k.0 (both_true hc (every_terminated test c ps hc k.1))
 
 -- a byte that passes a test is the separator, or passes the test of pieces
 abbrev pub OrSeparator : ℕ → (ℕ → Bool) → (ℕ → Bool) → Type 0
@@ -152,13 +151,13 @@ OrSeparator c test inner = (b : ℕ) → test b ≡ true → eqb b c ≡ false �
 
 every_with : (inner : ℕ → Bool) (t : Bool) (b : ℕ) (ps : List Bytes) → (t ≡ false → inner b ≡ true) → every (every inner) ps ≡ true → every (every inner) (piece_with t b ps) ≡ true
 every_with inner true b ps hb h = h
-every_with inner false b [] hb h = and_both (and_both (hb refl) refl) refl
+every_with inner false b [] hb h = both_true (both_true (hb refl) refl) refl
 every_with inner false b (p ∷ ps) hb h =
-    let k = both (every inner p) (every (every inner) ps) h in
-    and_both (and_both (hb refl) k.left) k.right
+    let k = and_parts (every inner p) (every (every inner) ps) h in
+    both_true (both_true (hb refl) k.0) k.1
 
 pub every_pieces : (test inner : ℕ → Bool) (c : ℕ) → OrSeparator c test inner → (bs : Bytes) → every test bs ≡ true → every (every inner) (pieces c bs) ≡ true
 every_pieces test inner c or [] h = refl
 every_pieces test inner c or (b ∷ bs) h =
-    let k = both (test b) (every test bs) h in
-    every_with inner (eqb b c) b (pieces c bs) (or b k.left) (every_pieces test inner c or bs k.right)
+    let k = and_parts (test b) (every test bs) h in
+    every_with inner (eqb b c) b (pieces c bs) (or b k.0) (every_pieces test inner c or bs k.1)

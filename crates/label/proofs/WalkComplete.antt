@@ -4,9 +4,10 @@ use mathlib.Core.Path.{◌≡◌, refl, ap, ◌∙◌, subst⁻¹}
 use mathlib.Core.Bool.{Bool, true, false, not, ◌&&◌, ◌||◌, true≢false}
 use mathlib.Core.List.{List, [], ◌∷◌, ◌++◌}
 use native.Mathlib.Omega.{arith}
-use borrow.Author.Tests.{ne_eqb}
+use borrow.Author.Tests.{ne_eqb, not-true}
 use lib.ListN.{length}
 use lib.Dec.{eqb}
+use Rattle.std.proofs.lemmas.Bool.{and_parts}
 use Rattle.label.specs.declared.Reason.{Reason}
 use Rattle.label.specs.Bytes.{Bytes, EOT, RS, is_empty}
 use Rattle.label.specs.declared.Edition.{Edition}
@@ -15,7 +16,6 @@ use Rattle.label.specs.Envelope.{Envelope, Within}
 use Rattle.label.specs.Written.{two_digits, parts}
 use Rattle.label.specs.Message.{is_transport, is_rest, Each}
 use Rattle.label.specs.ReadMessage.{Outcome, read, refused, after_trailer, at_boundary, and_then, follow, walk}
-use Rattle.label.proofs.Tests.{both, not_true}
 use Rattle.label.proofs.Laid.{format_of, content_bytes, bytes_envelope}
 use Rattle.label.proofs.EnvelopeComplete.{step_pass}
 use Rattle.label.proofs.MessageBytes.{closed_bytes, left_shorter}
@@ -52,9 +52,9 @@ walk_first : (edition : Edition) (m : Bytes) (n : ℕ) (first : Bool) (e : Envel
     → walk edition m (suc n) first (closed_bytes (e ∷ es) rest) ≡ and_then e (at_boundary m (walk edition m n false) (closed_bytes es rest))
 unfolding walk
 walk_first edition m n first e es rest within in_place =
-    let k = both ((first || not (is_transport e)) && not (is_rest e)) (placed false es) in_place in
-    let l = both (first || not (is_transport e)) (not (is_rest e)) k.left in
-    ap (follow m (walk edition m n false) (closed_bytes (e ∷ es) rest)) (step_pass edition first e (closed_bytes es rest) within (not_true _ l.right) l.left)
+    let k = and_parts ((first || not (is_transport e)) && not (is_rest e)) (placed false es) in_place in
+    let l = and_parts (first || not (is_transport e)) (not (is_rest e)) k.0 in
+    ap (follow m (walk edition m n false) (closed_bytes (e ∷ es) rest)) (step_pass edition first e (closed_bytes es rest) within (not-true _ l.1) l.0)
 
 -- one or more envelopes are walked over, and then it is as at the boundary behind them, whatever the bound there
 pub walk_over : (edition : Edition) (m : Bytes) (n : ℕ) (first : Bool) (e : Envelope) (es : List Envelope) (rest : Bytes) (o : Outcome)
@@ -67,9 +67,9 @@ walk_over edition m (suc n) first e [] rest o enough within in_place there =
     walk_first edition m n first e [] rest within.0 in_place ∙ ap (and_then e) (there n (omega arith))
 walk_over edition m (suc n) first e (e' ∷ es) rest o enough within in_place there =
     let shorter = left_shorter e (closed_bytes (e ∷ (e' ∷ es)) rest) (closed_bytes (e' ∷ es) rest) refl in
-    let k = both ((first || not (is_transport e)) && not (is_rest e)) (placed false (e' ∷ es)) in_place in
+    let k = and_parts ((first || not (is_transport e)) && not (is_rest e)) (placed false (e' ∷ es)) in_place in
     walk_first edition m n first e (e' ∷ es) rest within.0 in_place
-    ∙ ap (and_then e) (boundary_pass m (walk edition m n false) e' (RS ∷ closed_bytes es rest) ∙ walk_over edition m n false e' es rest o (omega arith) within.1 k.right there)
+    ∙ ap (and_then e) (boundary_pass m (walk edition m n false) e' (RS ∷ closed_bytes es rest) ∙ walk_over edition m n false e' es rest o (omega arith) within.1 k.1 there)
 
 pub walk_pass : (edition : Edition) (m : Bytes) (n : ℕ) (first : Bool) (es : List Envelope) → length (closed_bytes es (EOT ∷ [])) < n → is_empty es ≡ false → Each (Within edition) es → placed first es ≡ true
     → walk edition m n first (closed_bytes es (EOT ∷ [])) ≡ read es

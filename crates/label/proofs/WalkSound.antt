@@ -2,13 +2,15 @@
 -- at an envelope's start behind such envelopes, or at the message's end.
 use Prim.Native.Nat.{ℕ, zero, suc, ◌<◌}
 use mathlib.Core.Path.{◌≡◌, refl, sym, ap, ◌∙◌, subst}
-use mathlib.Core.Bool.{Bool, true, false, ◌&&◌, ◌||◌, false≢true}
+use mathlib.Core.Bool.{Bool, true, false, ◌&&◌, ◌||◌, false≢true, not, and-true}
 use mathlib.Core.Logic.{◌⊎◌, inl, inr}
 use mathlib.Core.List.{List, [], ◌∷◌, ◌++◌}
 use native.Mathlib.Omega.{arith}
 use borrow.Author.Tests.{eqb-true}
 use lib.ListN.{length}
 use lib.Dec.{eqb}
+use Rattle.std.specs.Cmp.Derive.{both_true}
+use Rattle.std.proofs.lemmas.Bool.{and_right}
 use Rattle.label.specs.declared.Reason.{Reason}
 use Rattle.label.specs.declared.Reason.TheVariants.{NoTrailer, BytesAfterTrailer}
 use Rattle.label.specs.Bytes.{Bytes, EOT, RS, is_empty}
@@ -20,7 +22,6 @@ use Rattle.label.specs.Message.{is_rest, Each}
 use Rattle.label.specs.Place.{goes_on}
 use Rattle.label.specs.ReadEnvelope.{Step, closed, whole, refuse, refuse_at, read_envelope}
 use Rattle.label.specs.ReadMessage.{Outcome, read, refused, place_of, and_then, after_trailer, at_boundary, follow, walk}
-use Rattle.label.proofs.Tests.{and_both, right_fails, not_false}
 use Rattle.label.proofs.EnvelopeSound.{RefusedSo, FaultSo, StepSo, ClosedSo, step_so}
 use Rattle.label.proofs.MessageBytes.{closed_bytes, left_shorter}
 use Rattle.label.proofs.Placed.{placed}
@@ -64,27 +65,23 @@ abbrev pub WalkSo : Edition → Bytes → Bool → Bytes → Outcome → Type 0
 WalkSo edition m first bs (read es) = Alone edition first bs es ⊎ AllClosed edition first bs es
 WalkSo edition m first bs (refused r p) = Stopped edition m first bs r p
 
-may_be_first : (first : Bool) → (first && true) ≡ first
-may_be_first true = refl
-may_be_first false = refl
-
 module _ (edition : Edition) (m : Bytes) where
   -- an envelope in front of what a walk over the rest, which goes on, answers
   stops_later : (first : Bool) (e : Envelope) (left : Bytes) (before : List Envelope) (rest : Bytes) (r : Reason) (p : ℕ) → goes_on left ≡ true → left ≡ closed_bytes before rest
       → StopsAt edition m false before rest r p → StopsAt edition m first (e ∷ before) rest r p
-  stops_later first e left before rest r p on bytes (in_envelope why due is place) = in_envelope why (later_due before bytes due) (ap (λ x. read_envelope edition x rest) (right_fails first refl) ∙ is) place
+  stops_later first e left before rest r p on bytes (in_envelope why due is place) = in_envelope why (later_due before bytes due) (ap (λ x. read_envelope edition x rest) (and_right first _ refl) ∙ is) place
     where
       later_due : (before : List Envelope) → left ≡ closed_bytes before rest → (is_empty before || goes_on rest) ≡ true → goes_on rest ≡ true
       later_due [] bytes due = sym (ap goes_on bytes) ∙ on
       later_due (e ∷ es) bytes due = due
   stops_later first e left before rest r p on bytes (in_body from so is place) =
-      in_body from (subst (λ (x : Bool). FaultSo edition x rest r from) (sym (right_fails first refl)) so) (ap (λ x. read_envelope edition x rest) (right_fails first refl) ∙ is) place
+      in_body from (subst (λ (x : Bool). FaultSo edition x rest r from) (sym (and_right first _ refl)) so) (ap (λ x. read_envelope edition x rest) (and_right first _ refl) ∙ is) place
   stops_later first e left before rest r p on bytes (at_end some none_left why place) = at_end refl none_left why place
   stops_later first e left before rest r p on bytes (behind_end more some is more_left why place) = behind_end more refl is more_left why place
 
   -- it stands where it may
   in_place_lem : (first : Bool) (bs : Bytes) (e : Envelope) (left : Bytes) (es : List Envelope) → ClosedSo edition first bs e left → placed false es ≡ true → placed first (e ∷ es) ≡ true
-  in_place_lem first bs e left es so later = and_both (and_both so.in_place (not_false so.not_rest)) later
+  in_place_lem first bs e left es so later = both_true (both_true so.in_place (ap not so.not_rest)) later
 
   in_front_lem : (first : Bool) (bs : Bytes) (e : Envelope) (left : Bytes) → ClosedSo edition first bs e left → goes_on left ≡ true → (o : Outcome) → WalkSo edition m false left o → WalkSo edition m first bs (and_then e o)
   in_front_lem first bs e left so on (read es) (inl alone) = absurd (false≢true alone.is_first)
@@ -137,21 +134,21 @@ module _ (edition : Edition) (m : Bytes) where
     where
       by : (t : Bool) → eqb b EOT ≡ t → WalkSo edition m first bs (and_then e (elim t [ true ↦ after_trailer m more | false ↦ next (b ∷ more) ]))
       by true is = behind_trailer first bs e b more (eqb-true b EOT is) so
-      by false is = in_front_lem first bs e (b ∷ more) so (not_false is) (next (b ∷ more)) later
+      by false is = in_front_lem first bs e (b ∷ more) so (ap not is) (next (b ∷ more)) later
 
   follow_so : (next : Bytes → Outcome) (first : Bool) (bs : Bytes) (s : Step) → read_envelope edition first bs ≡ s → StepSo edition first bs s
       → ((left : Bytes) → length left < length bs → WalkSo edition m false left (next left)) → WalkSo edition m first bs (follow m next bs s)
   follow_so next first bs (closed e left) is so later = boundary_so next first bs e left so (later left (left_shorter e bs left so.bytes))
   follow_so next first bs (whole e) is so later =
       inl record { one = e; only = refl; within = so.within; takes_rest = so.takes_rest; is_first = so.is_first; bytes = so.bytes }
-  follow_so next first bs (refuse r) is so later = record { before = []; rest = bs; within = tt; in_place = refl; bytes = refl; stops = in_envelope so refl (ap (λ x. read_envelope edition x bs) (may_be_first first) ∙ is) refl }
+  follow_so next first bs (refuse r) is so later = record { before = []; rest = bs; within = tt; in_place = refl; bytes = refl; stops = in_envelope so refl (ap (λ x. read_envelope edition x bs) (and-true first) ∙ is) refl }
   follow_so next first bs (refuse_at r from) is so later = record {
     before = [];
     rest = bs;
     within = tt;
     in_place = refl;
     bytes = refl;
-    stops = in_body from (subst (λ (x : Bool). FaultSo edition x bs r from) (sym (may_be_first first)) so) (ap (λ x. read_envelope edition x bs) (may_be_first first) ∙ is) refl;
+    stops = in_body from (subst (λ (x : Bool). FaultSo edition x bs r from) (sym (and-true first)) so) (ap (λ x. read_envelope edition x bs) (and-true first) ∙ is) refl;
   }
 
   pub walk_so : (n : ℕ) (first : Bool) (bs : Bytes) → length bs < n → WalkSo edition m first bs (walk edition m n first bs)

@@ -7,13 +7,13 @@ use native.Mathlib.Numerals.{add-one}
 use lib.ListN.{length, get_or, take, drop, length-append, length-drop, length-map}
 use lib.Seq.{drop-cons, get_or-drop, take_at, take-add, take_all, length-take-le, drop-drop, drop-append-add}
 use Rattle.std.specs.Simd.{first_chunks}
+use Rattle.std.proofs.lemmas.List.{drop_more, take_rest}
 use Rattle.label.specs.Limits.{row_width}
 use Rattle.label.specs.Layout.{Row, numbers, all_numbers}
 use Rattle.label.specs.Answer.{overlaid}
 use Rattle.label.specs.Counting.{row_from, kinds_of, raised, by_counting}
 use Rattle.label.proofs.Ordinals.{kind_at, counted_long, counted_step}
 use Rattle.label.proofs.Answers.{numbers_wide}
-use Rattle.leaves.proofs.Turns.{drop_step, take_rest}
 use Rattle.noted.specs.Noted.{note_width, rows_noted, rows_by}
 
 -- numbers put behind those that a table has in front of what it held
@@ -66,7 +66,7 @@ module _ (rows : List Row) (os old : List ℕ) (as_many : length os ≡ length r
     put_next o is table' new =
         let further : row_width * i + row_width ≡ row_width * (i + 1) = omega arith in
         let one_row : take (i + 1) rows ≡ take i rows ++ (r ∷ []) = take-add i 1 rows ∙ ap (λ rs. take i rows ++ take 1 rs) here in
-        let one_ordinal : take (i + 1) os ≡ take i os ++ (o ∷ []) = take-add i 1 os ∙ ap (λ ns. take i os ++ take 1 ns) (drop_step os i (omega (arith, as_many, more))) ∙ ap (λ n. take i os ++ (n ∷ [])) (sym is) in
+        let one_ordinal : take (i + 1) os ≡ take i os ++ (o ∷ []) = take-add i 1 os ∙ ap (λ ns. take i os ++ take 1 ns) (drop_more os i 0 (omega (arith, as_many, more))) ∙ ap (λ n. take i os ++ (n ∷ [])) (sym is) in
         record {
           up_to = omega (arith, more);
           holds =

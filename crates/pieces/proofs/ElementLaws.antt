@@ -1,7 +1,7 @@
 -- What an element of 05, 06 or 12 is, by the tests that the code makes of its length and of one byte after another.
 use Prim.Native.Nat.{ℕ, suc, ◌≤◌, ◌<◌}
 use mathlib.Core.Path.{◌≡◌, refl, sym, ap, ◌∙◌}
-use mathlib.Core.Bool.{Bool, true, false, ◌&&◌, cond}
+use mathlib.Core.Bool.{Bool, true, false, ◌&&◌, cond, and-true}
 use mathlib.Core.List.{[], ◌∷◌}
 use native.Mathlib.Omega.{arith}
 use borrow.Author.Tests.{le-leb, lt-leb, leb-true, eq-eqb, ne_eqb}
@@ -9,7 +9,6 @@ use lib.ListN.{length, get_or, take, drop}
 use lib.Dec.{leb, eqb}
 use Rattle.label.specs.Bytes.{Bytes, ascii, digit, capital, capital_or_digit, between, every, same_bytes}
 use Rattle.label.specs.Elements.{element05, capital_and_more, after_digits, element12}
-use Rattle.leaves.proofs.Turns.{and_true}
 
 pub element05_short : (s : Bytes) → length s < 3 → false ≡ element05 s
 unfolding element05
@@ -21,13 +20,13 @@ element05_long [] long = absurd (omega arith)
 element05_long (a ∷ []) long = absurd (omega arith)
 element05_long (a ∷ (b ∷ [])) long = absurd (omega arith)
 element05_long (a ∷ (b ∷ (c ∷ s))) long =
-    sym (ap (λ t. t && (digit a && (digit b && true))) (le-leb 3 (suc (suc (suc (length s)))) (omega arith)) ∙ ap (λ t. digit a && t) (and_true (digit b)))
+    sym (ap (λ t. t && (digit a && (digit b && true))) (le-leb 3 (suc (suc (suc (length s)))) (omega arith)) ∙ ap (λ t. digit a && t) (and-true (digit b)))
 
 capital_first : (s : Bytes) → 2 ≤ length s → (leb 0x41 (get_or s 0 0) && leb (get_or s 0 0) 0x5A) ≡ capital_and_more s
 unfolding capital_and_more capital between
 capital_first [] long = absurd (omega arith)
 capital_first (b ∷ []) long = absurd (omega arith)
-capital_first (b ∷ (x ∷ s)) long = sym (and_true (leb 0x41 b && leb b 0x5A))
+capital_first (b ∷ (x ∷ s)) long = sym (and-true (leb 0x41 b && leb b 0x5A))
 
 pub capital_front : (s : Bytes) → 2 ≤ length s → 0x41 ≤ get_or s 0 0 → get_or s 0 0 ≤ 0x5A → true ≡ capital_and_more s
 capital_front s long from to = sym (λ i. le-leb _ _ from i && le-leb _ _ to i) ∙ capital_first s long
@@ -91,7 +90,7 @@ element12_long (a ∷ (b ∷ (c ∷ (d ∷ (e ∷ s))))) long =
 pub spaced : (s : Bytes) → 5 ≤ length s → get_or s 3 0 ≡ 0x20 → ((capital_or_digit (get_or s 0 0) && capital_or_digit (get_or s 1 0)) && capital_or_digit (get_or s 2 0)) ≡ element12 s
 spaced s long is =
     let three = (capital_or_digit (get_or s 0 0) && capital_or_digit (get_or s 1 0)) && capital_or_digit (get_or s 2 0) in
-    sym (ap (λ t. three && t) (eq-eqb _ _ is) ∙ and_true three) ∙ element12_long s long
+    sym (ap (λ t. three && t) (eq-eqb _ _ is) ∙ and-true three) ∙ element12_long s long
 
 pub no_space : (s : Bytes) → 5 ≤ length s → (get_or s 3 0 ≡ 0x20 → ⊥) → false ≡ element12 s
 no_space s long other =

@@ -7,11 +7,11 @@ use native.Mathlib.Omega.{arith}
 use borrow.Author.Tests.{ne_eqb}
 use lib.ListN.{length, get_or, take, drop, length-drop}
 use lib.Dec.{eqb}
+use Rattle.std.proofs.lemmas.Bool.{and_right}
 use Rattle.label.specs.Bytes.{Bytes, ascii, plain, every, is_empty}
 use Rattle.label.specs.declared.Version.{Version}
 use Rattle.label.specs.declared.Version.TheVariants.{Version02}
 use Rattle.label.specs.Fields.{amount, unit, unit_length, weight, yes_or_no, field_bytes}
-use Rattle.label.proofs.Tests.{right_fails}
 use Rattle.pieces.proofs.TagLaws.{other_length}
 
 pub no_bytes : (s : Bytes) → eqb (length s) 0 ≡ is_empty s
@@ -24,7 +24,7 @@ no_unit s other = λ i. other_length s (ascii "LB") other i || other_length s (a
 
 pub no_room_for_unit : (s : Bytes) → length s < unit_length → false ≡ weight Version02 s
 unfolding weight
-no_room_for_unit s short = sym (right_fails (amount (take (length s - unit_length) s)) (sym (no_unit (drop (length s - unit_length) s) (λ is. omega (arith, length-drop (length s - unit_length) s)))))
+no_room_for_unit s short = sym (and_right (amount (take (length s - unit_length) s)) _ (sym (no_unit (drop (length s - unit_length) s) (λ is. omega (arith, length-drop (length s - unit_length) s)))))
 
 pub no_letter : (s : Bytes) → (length s ≡ 1 → ⊥) → false ≡ yes_or_no s
 unfolding yes_or_no

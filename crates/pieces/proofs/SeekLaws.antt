@@ -5,27 +5,22 @@ use mathlib.Core.Bool.{Bool, true, false, not, cond, true≢false}
 use mathlib.Core.List.{[], ◌∷◌, ◌++◌}
 use native.Mathlib.Omega.{arith}
 use native.Mathlib.Numerals.{add-one}
-use borrow.Author.Tests.{eqb-true, eq-eqb}
+use borrow.Author.Tests.{eqb-true, eq-eqb, not-true}
+use Rattle.leaves.proofs.Turns.{seek_within}
 use lib.ListN.{length, take, drop, length-drop}
 use lib.Seq.{take_all}
 use lib.Dec.{eqb}
+use Rattle.std.proofs.lemmas.Bool.{and_parts}
+use Rattle.std.specs.Cmp.Derive.{both_true}
 use Rattle.label.specs.Bytes.{Bytes}
 use Rattle.label.specs.Pieces.{Cut, found, absent, cut}
-use Rattle.label.proofs.Tests.{free, both, and_both, not_true, not_false}
+use Rattle.label.proofs.Tests.{free}
 use Rattle.label.proofs.Splitting.{cut_front, CutSo, cut_so}
 use Rattle.leaves.specs.Seek.{seek}
 
-seek_by : (t : Bool) (n k : ℕ) → n ≤ k → cond t 0 (suc n) ≤ suc k
-seek_by true n k h = omega arith
-seek_by false n k h = omega arith
-
-pub seek_inside : (c : ℕ) (bs : Bytes) → seek c bs ≤ length bs
-seek_inside c [] = omega arith
-seek_inside c (b ∷ bs) = seek_by (eqb b c) (seek c bs) (length bs) (seek_inside c bs)
-
 free_by : (t : Bool) (c b : ℕ) (bs : Bytes) → eqb b c ≡ t → free c (take (seek c bs) bs) ≡ true → free c (take (cond t 0 (suc (seek c bs))) (b ∷ bs)) ≡ true
 free_by true c b bs is h = refl
-free_by false c b bs is h = and_both (not_false is) h
+free_by false c b bs is h = both_true (ap not is) h
 
 -- before the first c there is none
 pub seek_free : (c : ℕ) (bs : Bytes) → free c (take (seek c bs) bs) ≡ true
@@ -54,8 +49,8 @@ cut_found c bs inside = ap (cut c) (seek_found c bs inside) ∙ cut_front c (tak
 
 -- a separator that stands among bytes is one of them
 separator_inside : (c : ℕ) (p rest : Bytes) → free c (p ++ (c ∷ rest)) ≡ true → ⊥
-separator_inside c [] rest h = true≢false (sym (eq-eqb c c refl) ∙ not_true (eqb c c) (both (not (eqb c c)) (free c rest) h).left)
-separator_inside c (b ∷ p) rest h = separator_inside c p rest (both (not (eqb b c)) (free c (p ++ (c ∷ rest))) h).right
+separator_inside c [] rest h = true≢false (sym (eq-eqb c c refl) ∙ not-true (eqb c c) (and_parts (not (eqb c c)) (free c rest) h).0)
+separator_inside c (b ∷ p) rest h = separator_inside c p rest (and_parts (not (eqb b c)) (free c (p ++ (c ∷ rest))) h).1
 
 free_cut : (c : ℕ) (bs : Bytes) → free c bs ≡ true → cut c bs ≡ absent
 free_cut c bs h = by (cut c bs) (cut_so c bs)
@@ -69,4 +64,4 @@ cut_absent c bs past = free_cut c bs (subst (λ (x : Bytes). free c x ≡ true) 
 
 -- what is found from inside lies inside or at the end
 pub find_inside : (c : ℕ) (s : Bytes) (from : ℕ) → from ≤ length s → from + seek c (drop from s) ≤ length s
-find_inside c s from inside = omega (arith, seek_inside c (drop from s), length-drop from s)
+find_inside c s from inside = omega (arith, seek_within c (drop from s), length-drop from s)

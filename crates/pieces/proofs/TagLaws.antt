@@ -1,7 +1,7 @@
 -- What a tag is, and `BIN`, by the tests that the code makes of the length, the first byte and all bytes.
 use Prim.Native.Nat.{suc, ◌≤◌, ◌<◌}
 use mathlib.Core.Path.{◌≡◌, refl, sym, ap, ◌∙◌}
-use mathlib.Core.Bool.{Bool, true, false, ◌&&◌}
+use mathlib.Core.Bool.{Bool, true, false, ◌&&◌, and-true}
 use mathlib.Core.List.{[], ◌∷◌}
 use native.Mathlib.Omega.{arith}
 use borrow.Author.Tests.{le-leb, lt-leb}
@@ -10,7 +10,6 @@ use lib.Dec.{leb, eqb}
 use Rattle.label.specs.Bytes.{Bytes, between, capital, capital_or_digit, every, same_bytes}
 use Rattle.label.specs.Limits.{long_as}
 use Rattle.label.specs.Segments.{tag}
-use Rattle.leaves.proofs.Turns.{and_true}
 
 pub tag_short : (s : Bytes) → length s < 2 → false ≡ tag s
 unfolding tag long_as
@@ -37,7 +36,7 @@ unfolding tag long_as capital between
 tag_long [] long = absurd (omega arith)
 tag_long (a ∷ s) long =
     sym (ap (λ t. t && leb (suc (length s)) 3 && (capital a && true) && every capital_or_digit (a ∷ s)) (le-leb 2 (suc (length s)) long)
-    ∙ ap (λ t. leb (suc (length s)) 3 && t && every capital_or_digit (a ∷ s)) (and_true (capital a)))
+    ∙ ap (λ t. leb (suc (length s)) 3 && t && every capital_or_digit (a ∷ s)) (and-true (capital a)))
 
 pub tag_there : (s : Bytes) → 2 ≤ length s → length s < 4 → ((leb 0x41 (get_or s 0 0) && leb (get_or s 0 0) 0x5A) && every capital_or_digit s) ≡ tag s
 tag_there s long short = sym (ap (λ t. (t && (leb 0x41 (get_or s 0 0) && leb (get_or s 0 0) 0x5A)) && every capital_or_digit s) (le-leb (length s) 3 (omega arith))) ∙ tag_long s long

@@ -11,6 +11,7 @@ use borrow.Author.Tests.{ltb-true, ltb-false, le-ltb}
 use lib.ListN.{length, get_or, take, drop}
 use lib.Seq.{take-add, take_all}
 use lib.Dec.{ltb}
+use Rattle.std.proofs.lemmas.Bool.{and_right, cond-false}
 use Rattle.label.specs.declared.Counts.{Counts}
 use Rattle.label.specs.declared.Reason.TheVariants.{TooManyRows, NoRoom}
 use Rattle.label.specs.declared.Stretch.{Stretch}
@@ -22,7 +23,6 @@ use Rattle.label.specs.Message.{rows_of, ordinals_of}
 use Rattle.label.specs.ReadMessage.{Outcome, read, refused, reading}
 use Rattle.label.specs.Answer.{accepted, refusal, room_of, overlaid, rows_read, ordinals_read}
 use Rattle.label.specs.Counting.{kinds_of, by_counting}
-use Rattle.label.proofs.Tests.{cond_no, right_fails}
 use Rattle.label.proofs.Ordinals.{ordinals_counted_lem, ordinals_of_one}
 use Rattle.label.proofs.Answers.{rows_few}
 use Rattle.leaves.proofs.Turns.{four_there}
@@ -114,16 +114,16 @@ handed_so edition m counts notes table handed =
     let all = rows_read (reading edition m) in
     let many = rows_judged edition m counts handed.judged in
     let rows = all_noted edition m notes counts.rows handed.kept handed.roomy many in
-    let few = right_fails (ltb 1 counts.envelopes) (le-ltb most_rows (length all) (rows_few edition m)) in
+    let few = and_right (ltb 1 counts.envelopes) _ (le-ltb most_rows (length all) (rows_few edition m)) in
     let os = ordinals_noted_lem (reading edition m) counts handed.judged in
     let so = is_accepted edition m table counts handed.judged in
     record {
       answered_so =
           (λ j. cond (ltb (room_of table) (length (rows j))) (refusal NoRoom 0) (cond (too_many counts.envelopes (rows j)) (refusal TooManyRows 0) (accepted counts.envelopes (length (rows j)))))
-          ∙ ap (cond (ltb (room_of table) (length all)) (refusal NoRoom 0)) (cond_no _ _ _ few) ∙ (λ j. cond (ltb (room_of table) (sym many j)) (refusal NoRoom 0) (accepted counts.envelopes (sym many j))) ∙ so.answered_so;
+          ∙ ap (cond (ltb (room_of table) (length all)) (refusal NoRoom 0)) (cond-false _ _ _ few) ∙ (λ j. cond (ltb (room_of table) (sym many j)) (refusal NoRoom 0) (accepted counts.envelopes (sym many j))) ∙ so.answered_so;
       filled_so =
           (λ j. cond (ltb (room_of table) (length (rows j))) table (cond (too_many counts.envelopes (rows j)) table (overlaid (all_numbers (rows j) (ordinals_noted counts.envelopes (rows j))) table)))
-          ∙ ap (cond (ltb (room_of table) (length all)) table) (cond_no _ _ _ few) ∙ (λ j. cond (ltb (room_of table) (sym many j)) table (overlaid (all_numbers all (os j)) table)) ∙ so.filled_so;
+          ∙ ap (cond (ltb (room_of table) (length all)) table) (cond-false _ _ _ few) ∙ (λ j. cond (ltb (room_of table) (sym many j)) table (overlaid (all_numbers all (os j)) table)) ∙ so.filled_so;
     }
 
 -- likewise of the note of its only row

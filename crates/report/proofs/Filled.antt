@@ -7,6 +7,7 @@ use Rattle.std.specs.declared.option.Option.{Option}
 use Rattle.std.proofs.Common.{sym, ap, ◌∙◌, subst, arith, length-append, length-take-le}
 use Rattle.std.proofs.Math.Seq.{take-append_seam, drop-append_seam}
 use Rattle.std.proofs.Math.ListN.{drop}
+use Rattle.std.proofs.lemmas.Result.{IfOk-at_ok}
 
 -- n of the bytes that were left stand at the front of a buffer of so many
 pub record Filled (left : List ℕ) (n size : ℕ) (buffer : List ℕ) (new : Option (List ℕ)) : Type 0 where
@@ -53,8 +54,8 @@ pub filled : {E : Type 0} (r : Result ℕ E) (n size : ℕ) (old new : Option (L
     → IfOk r (λ k. k ≤ length b) → IfOk r (λ k. Consumes old new (take k b)) → IfOk r (λ k. k < length b → IsAtEnd new) → length b ≡ size → Filled left n size b new
 filled r n size old new b left known ended within bytes end kept =
     record {
-      within = subst (λ x. IfOk x (λ k. k ≤ length b)) ended within;
-      bytes = subst (λ o. Consumes o new (take n b)) known (subst (λ x. IfOk x (λ k. Consumes old new (take k b))) ended bytes);
-      end = subst (λ x. IfOk x (λ k. k < length b → IsAtEnd new)) ended end;
+      within = IfOk-at_ok _ ended within;
+      bytes = subst (λ o. Consumes o new (take n b)) known (IfOk-at_ok _ ended bytes);
+      end = IfOk-at_ok _ ended end;
       kept = kept;
     }

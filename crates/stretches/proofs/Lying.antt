@@ -4,6 +4,7 @@ use mathlib.Core.Path.{◌≡◌, refl, sym, ap, ◌∙◌}
 use mathlib.Core.List.{List, [], ◌∷◌}
 use native.Mathlib.Omega.{arith}
 use lib.ListN.{length, drop}
+use Rattle.std.proofs.lemmas.List.{drop_all}
 use Rattle.label.specs.declared.Stretch.{Stretch}
 use Rattle.label.specs.declared.Edition.{Edition}
 use Rattle.label.specs.Bytes.{Bytes}
@@ -12,7 +13,6 @@ use Rattle.label.specs.Layout.{Row}
 use Rattle.label.specs.ReadMessage.{reading}
 use Rattle.label.specs.Answer.{rows_read}
 use Rattle.label.specs.Part.{stretch_at, part_of}
-use Rattle.leaves.proofs.Turns.{drop_past}
 use Rattle.walk.specs.declared.Cursor.{Cursor}
 use Rattle.stretches.specs.Stretches.{Lies}
 use Rattle.walk.proofs.Walks.{Yields}
@@ -42,4 +42,4 @@ module _ (edition : Edition) (m : Bytes) where
 
   -- no such row
   pub lies_nowhere : (i : ℕ) → length all ≤ i → Lies edition m i 0 0
-  lies_nowhere i past = lies_by i 0 0 (ap (λ rows. stretch_at rows 0) (drop_past all i past)) (omega arith)
+  lies_nowhere i past = lies_by i 0 0 (ap (λ rows. stretch_at rows 0) (drop_all i all past)) (omega arith)

@@ -9,13 +9,15 @@ use borrow.Author.Tests.{lt-ltb, ltb-false, eq-eqb}
 use lib.ListN.{length, get_or, take, drop, length-drop}
 use lib.Seq.{get_or-drop}
 use lib.Dec.{ltb}
+use Rattle.std.specs.Cmp.Derive.{both_true}
+use Rattle.std.proofs.lemmas.Bool.{cond-true}
 use Rattle.label.specs.Bytes.{Bytes, GS, RS, EOT, plain, digit, between, every}
 use Rattle.label.specs.Limits.{longest, most_rows}
 use Rattle.label.specs.Values.{value_after, value}
 use Rattle.label.specs.Formats.{widest, rule_of}
 use Rattle.label.specs.ReadEnvelope.{read_by}
 use Rattle.label.specs.ReadMessage.{agreement}
-use Rattle.label.proofs.Tests.{and_both, Implies, Without, plain_without, cond_yes}
+use Rattle.label.proofs.Tests.{Implies, Without, plain_without}
 use Rattle.leaves.specs.declared.Class.TheVariants.{Plain, Digit}
 use Rattle.leaves.specs.Classes.{class_of}
 use Rattle.leaves.specs.Seek.{seek}
@@ -161,7 +163,7 @@ module _ (f : ℕ) (m : Bytes) (at end next : ℕ) (is : next ≡ end + 1) (insi
   behind_count = ap (λ s. standing Body f s (count_from 0 (drop at m))) behind
 
   after_value_lem : (there : ℕ → Judged) → after_value m end there ≡ there next
-  after_value_lem there = cond_yes _ _ _ (lt-ltb end (length m) (omega arith)) ∙ ap there (sym is)
+  after_value_lem there = cond-true _ _ _ (lt-ltb end (length m) (omega arith)) ∙ ap there (sym is)
 
   compression_closes : end ≡ value_end 0 30 plain m at → compression_found m at ≡ count_found 5 m next
   compression_closes ends = ap (λ e. after_value m e (count_found 5 m)) (sym ends) ∙ after_value_lem (count_found 5 m)
@@ -175,7 +177,7 @@ module _ (f : ℕ) (m : Bytes) (at end next : ℕ) (is : next ≡ end + 1) (insi
       ap (λ e. after_value m e (payload_found total (value (take (e - at) (drop at m))) m)) (sym ends)
       ∙ after_value_lem (payload_found total (value (take (end - at) (drop at m))) m)
       ∙ ap (λ k. payload_found total k m next) made
-      ∙ cond_yes _ _ _ (and_both (lt-ltb n (length (drop next m)) (omega (arith, length-drop next m))) (eq-eqb _ RS (get_or-drop next m n 0 ∙ rs)))
+      ∙ cond-true _ _ _ (both_true (lt-ltb n (length (drop next m)) (omega (arith, length-drop next m))) (eq-eqb _ RS (get_or-drop next m n 0 ∙ rs)))
 
 -- a header value is due behind the one that is swept
 pub value_due : (m : Bytes) (w : Wanted) (v : Value) (at rows next : ℕ) (notes : List ℕ) (stage : Stage)
@@ -237,7 +239,7 @@ module _ (m : Bytes) (at : ℕ) (inside : at + 1 < length m) where
   counted_closes : (end next : ℕ) → get_or m at 0 ≡ GS → next ≡ end + 1 → next < length m → end ≡ value_end 1 30 plain m (at + 1) → counted_found m at ≡ compression_found m next
   counted_closes end next gs is less ends =
       let begins : agreement (GS ∷ []) (drop at m) ≡ 1 = agree_on (GS ∷ []) m 0 at (omega arith) (omega arith) gs in
-      cond_yes _ _ _ (eq-eqb _ 1 begins)
+      cond-true _ _ _ (eq-eqb _ 1 begins)
       ∙ ap (λ e. after_value m e (compression_found m)) (sym ends)
       ∙ after_value_lem 9 m at end next is less (compression_found m)
 

@@ -1,33 +1,30 @@
 -- Laws of elements that are taken from a message byte by byte: where the digits in front end, and that what follows makes an element of 06.
 use Prim.Native.Nat.{ℕ, zero, suc, ◌+◌, ◌-◌, ◌≤◌, ◌<◌}
 use mathlib.Core.Path.{◌≡◌, refl, sym, ap, ◌∙◌}
-use mathlib.Core.Bool.{Bool, true, false, not, ◌||◌, cond, true≢false}
-use mathlib.Core.List.{List, [], ◌∷◌}
+use mathlib.Core.Bool.{Bool, true, false, not, ◌||◌, cond}
+use mathlib.Core.List.{[], ◌∷◌}
 use native.Mathlib.Nat.{add-zero}
 use native.Mathlib.Omega.{arith}
 use borrow.Author.Tests.{leb-true, le-leb, ltb-false}
 use lib.ListN.{length, get_or, take, drop}
-use lib.Seq.{take-nil, drop-drop, get_or-drop}
+use lib.Seq.{drop-drop, get_or-drop}
 use lib.Dec.{leb, ltb}
 use Rattle.std.specs.List.{prefix_len}
+use Rattle.std.proofs.lemmas.Bool.{and_parts, or_parts}
+use Rattle.std.specs.Cmp.Derive.{both_true}
+use Rattle.std.proofs.lemmas.List.{drop_more, drop-take}
 use Rattle.label.specs.Bytes.{Bytes, between, plain, digit, capital, is_empty}
 use Rattle.label.specs.Elements.{capital_and_more, after_digits, element06}
-use Rattle.label.proofs.Tests.{both, and_both, Implies}
-use Rattle.leaves.proofs.Turns.{drop_step}
+use Rattle.label.proofs.Tests.{Implies}
 use Rattle.walk.specs.Cursors.{plain_run}
 use Rattle.sweeps.specs.Quick.{Framed, digit_run, RunsTo, PassesTo}
 use Rattle.walk.proofs.Offsets.{run_by}
 use Rattle.walk.proofs.Shaped.{digit_plain}
 use Rattle.sweeps.proofs.Framing.{class_behind, digit_behind}
 
--- neither of two tests holds
-pub neither : (a b : Bool) → (a || b) ≡ false → (a ≡ false) × (b ≡ false)
-neither true b h = absurd (true≢false h)
-neither false b h = (refl, h)
-
 -- one turn over the digits in front
 digits_by : (m : Bytes) (i : ℕ) → i < length m → (n : ℕ) (t : Bool) → digit (get_or m i 0) ≡ t → digit_run (suc n) (drop i m) ≡ cond t (suc (digit_run n (drop (i + 1) m))) 0
-digits_by m i inside n t is = ap (digit_run (suc n)) (drop_step m i inside) ∙ ap (λ t. cond t (suc (digit_run n (drop (i + 1) m))) 0) is
+digits_by m i inside n t is = ap (digit_run (suc n)) (drop_more m i 0 inside) ∙ ap (λ t. cond t (suc (digit_run n (drop (i + 1) m))) 0) is
 
 -- the digits in front are counted, and end before the message does
 pub digits_counted : (n : ℕ) (bs : Bytes) → prefix_len digit (take n bs) ≡ digit_run n bs
@@ -83,8 +80,8 @@ after_digits_lem (suc n) (b ∷ bs) = by (digit b) (after_digits_lem n bs)
 capital_plain : Implies capital plain
 unfolding capital plain between
 capital_plain b is =
-    let k = both (leb 0x41 b) (leb b 0x5A) is in
-    and_both (le-leb 0x20 b (omega (arith, leb-true 0x41 b k.left))) (le-leb b 0x7E (omega (arith, leb-true b 0x5A k.right)))
+    let k = and_parts (leb 0x41 b) (leb b 0x5A) is in
+    both_true (le-leb 0x20 b (omega (arith, leb-true 0x41 b k.0))) (le-leb b 0x7E (omega (arith, leb-true b 0x5A k.1)))
 
 more_there : (bs : Bytes) → 1 ≤ plain_run bs → not (is_empty (take (plain_run bs) bs)) ≡ true
 more_there [] some = absurd (omega arith)
@@ -100,13 +97,8 @@ capital_run [] some is = absurd (omega arith)
 capital_run (b ∷ bs) some is = by (plain b) (capital_plain b is) some
   where
     by : (t : Bool) → t ≡ true → 2 ≤ cond t (suc (plain_run bs)) 0 → capital_and_more (take (cond t (suc (plain_run bs)) 0) (b ∷ bs)) ≡ true
-    by true yes_plain some = and_both is (more_there bs (omega arith))
+    by true yes_plain some = both_true is (more_there bs (omega arith))
     by false not_plain some = absurd (omega arith)
-
-drop_take : {A : Type 0} (i n : ℕ) (l : List A) → drop i (take (i + n) l) ≡ take n (drop i l)
-drop_take zero n l = let is : zero + n ≡ n = omega arith in ap (λ k. take k l) is
-drop_take (suc i) n [] = ap (drop (suc i)) (take-nil (suc i + n)) ∙ sym (take-nil n)
-drop_take (suc i) n (x ∷ l) = let is : suc i + n ≡ suc (i + n) = omega arith in ap (λ k. drop (suc i) (take k (x ∷ l))) is ∙ drop_take i n l
 
 -- 06: digits, a capital, and at least one byte more
 pub run_06 : (bs : Bytes) → 2 ≤ plain_run (drop (digit_run 3 bs) bs) → capital (get_or bs (digit_run 3 bs) 0) ≡ true
@@ -119,7 +111,7 @@ run_06 bs some is =
       after_digits_lem 3 (take (plain_run bs) bs)
           ∙ ap (λ n. capital_and_more (drop n (take (plain_run bs) bs))) (digits_in_run 3 bs)
           ∙ ap (λ n. capital_and_more (drop d (take n bs))) (run_digits 3 bs)
-          ∙ ap capital_and_more (drop_take d (plain_run rest) bs)
+          ∙ ap capital_and_more (drop-take d (plain_run rest) bs)
           ∙ capital_run rest some (ap capital (get_or-drop d bs 0 0 ∙ ap (λ n. get_or bs n 0) (add-zero d)) ∙ is),
     )
 
@@ -132,8 +124,8 @@ module _ (m : Bytes) (at end : ℕ) where
     is_capital : capital (get_or m c 0) ≡ true
     unfolding capital between
     is_capital =
-        let k = neither (ltb (get_or m c 0) 0x41) (ltb 0x5A (get_or m c 0)) letter in
-        and_both (le-leb 0x41 (get_or m c 0) (ltb-false (get_or m c 0) 0x41 k.0)) (le-leb (get_or m c 0) 0x5A (ltb-false 0x5A (get_or m c 0) k.1))
+        let k = or_parts (ltb (get_or m c 0) 0x41) (ltb 0x5A (get_or m c 0)) letter in
+        both_true (le-leb 0x41 (get_or m c 0) (ltb-false (get_or m c 0) 0x41 k.0)) (le-leb (get_or m c 0) 0x5A (ltb-false 0x5A (get_or m c 0) k.1))
 
     pub behind_capital : Framed m → c < length m → c + 1 < length m
     unfolding plain between

@@ -10,6 +10,9 @@ use lib.Seq.{drop-drop, get_or-drop, get_or_at, length-take-le}
 use lib.Dec.{eqb, leb}
 use Rattle.std.specs.Prelude.{Some, None, Result, IfOk}
 use Rattle.std.proofs.lemmas.Result.{IfOk-weaker}
+use Rattle.std.proofs.lemmas.Bool.{and_parts, cond-true}
+use Rattle.std.specs.Cmp.Derive.{both_true}
+use Rattle.std.proofs.lemmas.List.{drop_more}
 use Rattle.label.specs.declared.Reason.TheVariants.{BadFormatHeader}
 use Rattle.label.specs.declared.Edition.{Edition}
 use Rattle.label.specs.Bytes.{Bytes, GS, RS, between, digit, every}
@@ -19,13 +22,11 @@ use Rattle.label.specs.Formats.{widest, rule_of, text_byte}
 use Rattle.label.specs.ReadEnvelope.{read_by}
 use Rattle.label.specs.ReadMessage.{agreement}
 use Rattle.label.proofs.Editions.{is_known, known_in_widest}
-use Rattle.label.proofs.Tests.{both, and_both, cond_yes}
 use Rattle.formats.specs.declared.Shape.{Shape}
 use Rattle.formats.specs.Shapes.{rule_for}
 use Rattle.formats.proofs.Table.{number_for, number_of}
 use Rattle.leaves.specs.Classes.{digit_of}
 use Rattle.leaves.specs.Seek.{seek}
-use Rattle.leaves.proofs.Turns.{drop_step}
 use Rattle.pieces.specs.declared.Kind.{Kind}
 use Rattle.pieces.specs.declared.Kind.TheVariants.{Fields, Segments03, Segments04, Elements05, Elements06, Text, Elements12}
 use Rattle.pieces.proofs.SeekLaws.{seek_found}
@@ -52,7 +53,7 @@ module _ (m : Bytes) (at : ℕ) (inside : at < length m) where
 
   -- a GS that stands at an offset begins what follows
   begins_gs : get_or m at 0 ≡ GS → begins_at (GS ∷ []) m at ≡ true
-  begins_gs is = ap (λ bs. eqb (agreement (GS ∷ []) bs) 1) (drop_step m at inside ∙ ap (λ b. b ∷ drop (at + 1) m) is)
+  begins_gs is = ap (λ bs. eqb (agreement (GS ∷ []) bs) 1) (drop_more m at 0 inside ∙ ap (λ b. b ∷ drop (at + 1) m) is)
 
 -- a format by its shape, which tells its number
 module _ (edition : Edition) (m : Bytes) (w : Wanted) (at rows f : ℕ) {found s : Shape} (is : found ≡ s) (known : is_known (rule_for s) ≡ true) (by : rule_for found ≡ rule_of edition f) where
@@ -102,7 +103,7 @@ module _ (m : Bytes) (from at rows : ℕ) (inside : at < length m) (gs : get_or 
   elements_swept k f of p notes body = record {
     more = body.more;
     inside = body.inside;
-    closes = λ first only. elements_shown k f of first ∙ cond_yes _ _ _ (begins_gs m at inside gs) ∙ body.closes 1;
+    closes = λ first only. elements_shown k f of first ∙ cond-true _ _ _ (begins_gs m at inside gs) ∙ body.closes 1;
     noted = body.noted;
   }
 
@@ -160,7 +161,7 @@ worth_of b u = by (digit b) refl
   where
     by : (t : Bool) → digit b ≡ t → cond t (Some (b - 0x30)) None ≡ Some u → Worth b u
     by true is tells =
-        let few = leb-true b 0x39 (both (leb 0x30 b) (leb b 0x39) is).right in
+        let few = leb-true b 0x39 (and_parts (leb 0x30 b) (leb b 0x39) is).1 in
         let worth : b - 0x30 ≡ u = cc in
         record { is = is; by = sym worth; small = omega (arith, few, worth) }
     by false is tells = absurd cc
@@ -180,8 +181,8 @@ indicates m framed at t u f inside tens small units made =
     record {
       more = omega arith;
       says = ap indicator_of (drop_two m at (omega arith))
-          ∙ cond_yes (digit a && digit b) (value (a ∷ b ∷ [])) 100
-          (and_both (and_both (le-leb 0x30 a (omega (arith, tens))) (le-leb a 0x39 (omega (arith, tens)))) unit)
+          ∙ cond-true (digit a && digit b) (value (a ∷ b ∷ [])) 100
+          (both_true (both_true (le-leb 0x30 a (omega (arith, tens))) (le-leb a 0x39 (omega (arith, tens)))) unit)
           ∙ sum;
       row = ap (λ n. standing Indicator n at 2) said;
       known = omega (arith, made, worth.small);

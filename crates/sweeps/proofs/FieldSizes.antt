@@ -1,7 +1,7 @@
 -- A field whose bytes are plain, and for which the column Bytes asks no more, is right by its length alone.
 use Prim.Native.Nat.{ℕ}
 use mathlib.Core.Path.{◌≡◌, refl, sym, ap, ◌∙◌}
-use mathlib.Core.Bool.{Bool, true, false, ◌&&◌, ◌||◌, true≢false}
+use mathlib.Core.Bool.{Bool, true, false, ◌&&◌, ◌||◌, true≢false, and-true}
 use borrow.Author.Tests.{eqb-false}
 use lib.ListN.{length, get_or}
 use lib.Dec.{leb, eqb}
@@ -9,7 +9,6 @@ use Rattle.label.specs.Bytes.{Bytes, plain, every, is_empty}
 use Rattle.label.specs.Limits.{limit_of, long_as}
 use Rattle.label.specs.declared.Version.{Version}
 use Rattle.label.specs.Fields.{field_bytes, least_fields, version_row, field}
-use Rattle.leaves.proofs.Turns.{and_true}
 use Rattle.pieces.proofs.FieldLaws.{plain_column, no_bytes}
 use Rattle.sweeps.specs.Transport.{fits_in}
 
@@ -30,7 +29,7 @@ module _ (i : ℕ) (other : ((((eqb i 8 || eqb i 9) || eqb i 10) || eqb i 1) || 
   unfolding field long_as
   version_sized v =
       let long : Bool = leb (limit_of (version_row v) i).0 (length p) && leb (length p) (limit_of (version_row v) i).1 in
-      (λ j. sym (and_true long) j || (leb least_fields i && no_bytes p j)) ∙ ap (λ t. (long && t) || (leb least_fields i && is_empty p)) (sym (column v))
+      (λ j. sym (and-true long) j || (leb least_fields i && no_bytes p j)) ∙ ap (λ t. (long && t) || (leb least_fields i && is_empty p)) (sym (column v))
 
   pub field_sized : (v : Version) (n : ℕ) → length p ≡ n → fits_in v i n ≡ true → field v i p ≡ true
   field_sized v n long fits = sym (version_sized v) ∙ ap (fits_in v i) long ∙ fits

@@ -2,7 +2,7 @@
 -- a turn at a time.
 use Prim.Native.Nat.{ℕ, ◌+◌, ◌-◌, ◌≤◌, ◌<◌}
 use mathlib.Core.Path.{◌≡◌, refl, sym, ap, ◌∙◌, subst}
-use mathlib.Core.Bool.{Bool, true, false, not, ◌&&◌, ◌||◌, true≢false}
+use mathlib.Core.Bool.{Bool, true, false, not, ◌&&◌, ◌||◌, true≢false, or-true}
 use mathlib.Core.List.{List, [], ◌∷◌, ◌++◌}
 use native.Mathlib.Omega.{arith}
 use borrow.Author.Tests.{le-leb, lt-ltb, eq-eqb}
@@ -56,13 +56,9 @@ module _ (v : Version) where
         ∙ (λ j. le-leb 4 i (omega (arith, right.enough)) j && lt-ltb i (most_fields v) (omega (arith, right.few)) j && (passes j && true) && (eqb i 4 || not (is_empty p)))
         ∙ by p right.some
       where
-        or_true : (t : Bool) → (t || true) ≡ true
-        or_true true = refl
-        or_true false = refl
-
         by : (q : Bytes) → (length q ≡ 0 → i + 1 ≡ least_fields) → (eqb i 4 || not (is_empty q)) ≡ true
         by [] five = let is = five refl in ap (λ t. t || false) (eq-eqb i 4 (omega arith))
-        by (b ∷ q) five = or_true (eqb i 4)
+        by (b ∷ q) five = or-true (eqb i 4)
 
 -- The sweep
 

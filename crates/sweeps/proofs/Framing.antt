@@ -6,11 +6,11 @@ use native.Mathlib.Omega.{arith}
 use borrow.Author.Tests.{leb-true, ltb-true, ltb-false, eqb-true}
 use lib.ListN.{length, get_or}
 use lib.Dec.{eqb, leb, ltb}
+use Rattle.std.proofs.lemmas.Bool.{and_parts}
 use Rattle.label.specs.Bytes.{Bytes, EOT, between, digit}
 use Rattle.label.specs.Limits.{longest}
 use Rattle.label.specs.Message.{header}
 use Rattle.label.specs.ReadMessage.{agreement}
-use Rattle.label.proofs.Tests.{both}
 use Rattle.sweeps.specs.Quick.{IfSo, Framed, Headed}
 
 module _ (m : Bytes) (framed : Framed m) (i : ℕ) (inside : i < length m) where
@@ -39,9 +39,9 @@ module _ (m : Bytes) (framed : Framed m) (i : ℕ) (inside : i < length m) where
 -- how such a frame is told
 pub headed_by : (m : Bytes) (same : Bool) → length header + 1 < length m → length m ≤ longest → same ≡ leb (length header) (agreement header m) → IfSo (same && eqb (get_or m (length m - 1) 0) EOT) (Headed m)
 headed_by m same long short is so =
-    let k = both same (eqb (get_or m (length m - 1) 0) EOT) so in
+    let k = and_parts same (eqb (get_or m (length m - 1) 0) EOT) so in
     record {
-      framed = record { some = omega arith; short = short; ends = eqb-true _ EOT k.right };
-      begins = leb-true (length header) (agreement header m) (sym is ∙ k.left);
+      framed = record { some = omega arith; short = short; ends = eqb-true _ EOT k.1 };
+      begins = leb-true (length header) (agreement header m) (sym is ∙ k.0);
       long = long;
     }

@@ -8,12 +8,12 @@ use native.Mathlib.Omega.{arith}
 use borrow.Author.Tests.{ne_eqb, eq-eqb, le-ltb}
 use lib.ListN.{length, get_or, drop}
 use Rattle.std.specs.Prelude.{Result, Ok, Err}
+use Rattle.std.proofs.lemmas.Bool.{cond-false}
 use Rattle.label.specs.declared.Counts.{Counts}
 use Rattle.label.specs.declared.Edition.{Edition}
 use Rattle.label.specs.Bytes.{Bytes, EOT}
 use Rattle.label.specs.Limits.{most_rows}
 use Rattle.label.specs.ReadMessage.{reading, unbounded_walk}
-use Rattle.label.proofs.Tests.{cond_no}
 use Rattle.judge.specs.declared.State.{State}
 use Rattle.judge.specs.Shown.{placed, judged_as, tallied, limited}
 use Rattle.judge.specs.Turns.{first_due, go, result_of, Sound, TurnSo, boundary_turn}
@@ -90,7 +90,7 @@ module _ (edition : Edition) (m : Bytes) (from : ℕ) (notes : List ℕ) (at env
       let so = subst (TurnSo edition m here) (sym (boundary_last m p.next (counts_of (envelopes + 1) p.rows) swept.inside (eq-eqb (get_or m p.next 0) EOT is) (omega (arith, last)))) turned in
       sym (judge_walk edition m going.headed.framed.short going.headed.begins (omega (arith, going.headed.long)))
       ∙ ap limited (sym (so.same ∙ going.same))
-      ∙ cond_no _ _ _ (le-ltb most_rows p.rows few)
+      ∙ cond-false _ _ _ (le-ltb most_rows p.rows few)
 
   pub ended_so : get_or m p.next 0 ≡ EOT → (most : ℕ) → most ≤ most_rows → (r : Result Counts Unswept) → EndsSo m p.next (record { envelopes = envelopes + 1; rows = p.rows }) most r → SweptSo edition m (record { from = from; most = most }) new r
   ended_so is most within (Ok counts) so = record {

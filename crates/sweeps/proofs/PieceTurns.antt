@@ -5,19 +5,22 @@ use mathlib.Core.Path.{◌≡◌, refl, sym, ap, ◌∙◌}
 use mathlib.Core.Bool.{Bool, true, false, not, ◌&&◌, cond}
 use mathlib.Core.List.{[], ◌∷◌, ◌++◌}
 use native.Mathlib.Omega.{arith}
-use borrow.Author.Tests.{lt-ltb}
+use borrow.Author.Tests.{lt-ltb, not-true}
 use lib.ListN.{length, get_or, take, drop, length-append, length-take, length-drop, take-append-drop}
 use lib.Seq.{drop-drop, take-append_seam, take-append-add}
 use lib.Dec.{eqb, ltb}
+use Rattle.std.proofs.lemmas.Bool.{and_parts, or_left}
+use Rattle.std.specs.Cmp.Derive.{both_true}
+use Rattle.std.proofs.lemmas.List.{drop_more}
 use Rattle.label.specs.declared.Reason.TheVariants.{ByteNotPermitted, BodyBreaksRules, NoRecordSeparator}
 use Rattle.label.specs.Bytes.{Bytes, GS, RS, plain, between, every}
 use Rattle.label.specs.Pieces.{pieces}
 use Rattle.label.specs.Elements.{element05, element06, element12}
 use Rattle.label.specs.ReadEnvelope.{plain_or_gs}
-use Rattle.label.proofs.Tests.{both, and_both, or_left, free, not_true, free_of, plain_without, every_implies}
+use Rattle.label.proofs.Tests.{free, free_of, plain_without, every_implies}
 use Rattle.label.proofs.Splitting.{pieces_one, pieces_front}
 use Rattle.leaves.specs.Seek.{seek, tally_of}
-use Rattle.leaves.proofs.Turns.{drop_step, seek_behind, tally_behind}
+use Rattle.leaves.proofs.Turns.{seek_behind, tally_behind}
 use Rattle.pieces.specs.declared.Kind.{Kind}
 use Rattle.pieces.specs.declared.Kind.TheVariants.{Fields, Segments03, Segments04, Elements05, Elements06, Text, Elements12}
 use Rattle.pieces.specs.PieceTests.{piece_test}
@@ -35,20 +38,20 @@ run_every class [] = refl
 run_every class (b ∷ bs) = by (class b) refl (run_every class bs)
   where
     by : (t : Bool) → class b ≡ t → every class (take (run_of class bs) bs) ≡ true → every class (take (cond t (suc (run_of class bs)) 0) (b ∷ bs)) ≡ true
-    by true is later = and_both is later
+    by true is later = both_true is later
     by false is later = refl
 
 pub every_front : (f : ℕ → Bool) (p rest : Bytes) → every f p ≡ true → every f (p ++ rest) ≡ every f rest
 every_front f [] rest ok = refl
 every_front f (b ∷ p) rest ok =
-    let k = both (f b) (every f p) ok in
-    ap (λ t. t && every f (p ++ rest)) k.left ∙ every_front f p rest k.right
+    let k = and_parts (f b) (every f p) ok in
+    ap (λ t. t && every f (p ++ rest)) k.0 ∙ every_front f p rest k.1
 
 pub tally_none : (c : ℕ) (p : Bytes) → free c p ≡ true → tally_of c p ≡ 0
 tally_none c [] ok = refl
 tally_none c (b ∷ p) ok =
-    let k = both (not (eqb b c)) (free c p) ok in
-    ap (λ t. cond t (suc (tally_of c p)) (tally_of c p)) (not_true (eqb b c) k.left) ∙ tally_none c p k.right
+    let k = and_parts (not (eqb b c)) (free c p) ok in
+    ap (λ t. cond t (suc (tally_of c p)) (tally_of c p)) (not-true (eqb b c) k.0) ∙ tally_none c p k.1
 
 -- plain bytes are one piece
 pub no_gs : (p : Bytes) → every plain p ≡ true → free GS p ≡ true
@@ -89,7 +92,7 @@ module _ (rule : ℕ → Bytes → Bool) where
   module _ (i before at : ℕ) (p rest : Bytes) (ok : every plain p ≡ true) where
     plain_gs : every plain_or_gs p ≡ true
     unfolding plain_or_gs
-    plain_gs = every_implies plain plain_or_gs (λ b is. or_left (eqb b GS) is) p ok
+    plain_gs = every_implies plain plain_or_gs (λ b is. or_left _ (eqb b GS) is) p ok
 
     no_rs_lem : free RS p ≡ true
     no_rs_lem = free_of RS plain (plain_without RS (omega arith)) p ok
@@ -136,7 +139,7 @@ module _ (m : Bytes) (at end : ℕ) (to : RunsTo plain m at end) where
   bytes_there =
       let there : at + (end - at) ≡ end = omega (arith, to.runs) in
       sym (take-append-drop (end - at) (drop at m))
-      ∙ ap (λ l. take (end - at) (drop at m) ++ l) (drop-drop (end - at) at m ∙ ap (λ n. drop n m) there ∙ drop_step m end to.inside)
+      ∙ ap (λ l. take (end - at) (drop at m) ++ l) (drop-drop (end - at) at m ∙ ap (λ n. drop n m) there ∙ drop_more m end 0 to.inside)
 
   pub piece_plain : every plain piece ≡ true
   piece_plain = let long : end - at ≡ plain_run (drop at m) = omega (arith, to.runs) in ap (λ n. every plain (take n (drop at m))) long ∙ run_every plain (drop at m)

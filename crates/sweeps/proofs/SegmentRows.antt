@@ -8,13 +8,16 @@ use borrow.Author.Tests.{eqb-true}
 use lib.ListN.{length, get_or, take, drop, length-append, length-take, length-drop, take-append-drop}
 use lib.Seq.{drop-drop}
 use lib.Dec.{eqb}
+use Rattle.std.proofs.lemmas.Bool.{and_parts, or_left}
+use Rattle.std.specs.Cmp.Derive.{both_true}
+use Rattle.std.proofs.lemmas.List.{drop_more}
 use Rattle.label.specs.Bytes.{Bytes, FS, GS, US, EOT, plain, between, every}
 use Rattle.label.specs.Pieces.{pieces}
 use Rattle.label.specs.Segments.{Element, tag03, tagged}
-use Rattle.label.proofs.Tests.{both, and_both, or_left, free, free_of, plain_without, Implies, every_implies, every_append}
+use Rattle.label.proofs.Tests.{free, free_of, plain_without, Implies, every_implies, every_append}
 use Rattle.label.proofs.Splitting.{pieces_one, pieces_front}
 use Rattle.leaves.specs.Seek.{tally_of}
-use Rattle.leaves.proofs.Turns.{drop_step, tally_behind}
+use Rattle.leaves.proofs.Turns.{tally_behind}
 use Rattle.walk.specs.declared.Stage.TheVariants.{Tag, LaterElement, FurtherSubElement}
 use Rattle.walk.specs.declared.Cursor.{Cursor}
 use Rattle.walk.specs.Cursors.{ahead, plain_run, standing, plain_row, after_segment, after_sub_element, following, next_cursor}
@@ -29,7 +32,7 @@ use Rattle.sweeps.proofs.Sweeping.{run_row, run_ahead}
 -- Bytes
 
 plain_inside : Implies plain in_segment
-plain_inside b is = or_left (eqb b US) (or_left (eqb b GS) is)
+plain_inside b is = or_left _ (eqb b US) (or_left _ (eqb b GS) is)
 
 -- plain bytes are no rows of their own
 plain_rows : (p : Bytes) → every plain p ≡ true → later_rows p ≡ 0
@@ -136,10 +139,10 @@ module _ (m : Bytes) (framed : Framed m) (from f start before : ℕ) (notes : Li
       let old = stands.bytes in
       record {
         bytes = old ++ (b ∷ p);
-        there = stands.there ∙ ap (λ l. old ++ l) (drop_step m end stands.inside ∙ ap (λ l. b ∷ l) (run_there m (end + 1) next to)) ∙ sym (append_assoc old (b ∷ p) (drop next m));
+        there = stands.there ∙ ap (λ l. old ++ l) (drop_more m end 0 stands.inside ∙ ap (λ l. b ∷ l) (run_there m (end + 1) next to)) ∙ sym (append_assoc old (b ∷ p) (drop next m));
         behind = omega (arith, stands.behind, length-append old (b ∷ p), run_long m (end + 1) next to);
         inside = to.inside;
-        permitted = every_append in_segment old (b ∷ p) stands.permitted (and_both (parts_inside b is) (every_implies plain in_segment plain_inside p ok));
+        permitted = every_append in_segment old (b ∷ p) stands.permitted (both_true (parts_inside b is) (every_implies plain in_segment plain_inside p ok));
         counts = omega (arith, stands.counts, rows_append old (b ∷ p), parts_rows b p is ok);
         noted = subst (λ (d : Cursor). Noted m from new (rows + 1) d) (ap (next_cursor m) row ∙ parts_next m f b (end + 1) next to)
             (one m (subst (λ (d : Cursor). Noted m from notes rows d) (parts_cursor m f end is (parts_more is) ∙ sym (run_row m f (end + 1) next to (stage_behind b)) ∙ sym row) stands.noted));
@@ -150,7 +153,7 @@ module _ (m : Bytes) (framed : Framed m) (from f start before : ℕ) (notes : Li
       let more = byte_behind m framed end stands.inside FS is (λ e. omega arith) in
       record {
         bytes = stands.bytes;
-        there = stands.there ∙ ap (λ l. stands.bytes ++ l) (drop_step m end stands.inside ∙ ap (λ b. b ∷ drop (end + 1) m) is);
+        there = stands.there ∙ ap (λ l. stands.bytes ++ l) (drop_more m end 0 stands.inside ∙ ap (λ b. b ∷ drop (end + 1) m) is);
         behind = omega (arith, stands.behind);
         inside = more;
         permitted = stands.permitted;
@@ -189,7 +192,7 @@ module _ (t : Bytes) (ok : every plain t ≡ true) (is : tag03 t ≡ true) where
           ap (λ c. tagged tag03 (map (pieces US) (pieces GS (t ++ (c ∷ bs))))) (eqb-true b GS x)
           ∙ ap (λ ps. tagged tag03 (map (pieces US) ps)) (pieces_front GS t bs no_gs)
           ∙ first_element (map (pieces US) (pieces GS bs))
-      by false true x y ends = absurd (fs_outside (sym (ap in_segment (eqb-true b FS y)) ∙ (both (in_segment b) (every in_segment bs) permitted).left))
+      by false true x y ends = absurd (fs_outside (sym (ap in_segment (eqb-true b FS y)) ∙ (and_parts (in_segment b) (every in_segment bs) permitted).0))
       by false false x y ends = absurd (true≢false ends)
 
 pub segment_swept : (m : Bytes) (from f at rows end : ℕ) (p : Passed) (notes : List ℕ) → TagTo m at end → LaterSwept m from f end (rows + 1) p notes → SegmentSwept m from f at rows p notes

@@ -9,6 +9,8 @@ use borrow.Author.Tests.{lt-ltb, eq-eqb, ne_eqb, eqb-true, eqb-false}
 use lib.ListN.{length, get_or, take, drop, length-append}
 use lib.Seq.{take-append-add}
 use lib.Dec.{eqb, ltb}
+use Rattle.std.proofs.lemmas.Bool.{and_parts}
+use Rattle.std.proofs.lemmas.List.{drop_more}
 use Rattle.label.specs.declared.Reason.TheVariants.{NoRecordSeparator}
 use Rattle.label.specs.Bytes.{Bytes, FS, GS, RS, US, plain, between, capital_or_digit, every, is_empty}
 use Rattle.label.specs.Pieces.{pieces, last_is_empty, without_last}
@@ -17,11 +19,11 @@ use Rattle.label.specs.Values.{release_length}
 use Rattle.label.specs.Formats.{widest, rule_of}
 use Rattle.label.specs.ReadEnvelope.{segment_byte, segments_in, are_segments, read_by}
 use Rattle.label.specs.ReadMessage.{agreement}
-use Rattle.label.proofs.Tests.{both, free, free_of, Without, without_or, without_one, plain_without, Implies, every_implies}
+use Rattle.label.proofs.Tests.{free, free_of, Without, without_or, without_one, plain_without, Implies, every_implies}
 use Rattle.label.proofs.Splitting.{pieces_some, pieces_front}
 use Rattle.label.proofs.SegmentLaws.{segment_cut}
 use Rattle.leaves.specs.Seek.{seek, tally_of}
-use Rattle.leaves.proofs.Turns.{drop_step, seek_behind, tally_behind}
+use Rattle.leaves.proofs.Turns.{seek_behind, tally_behind}
 use Rattle.pieces.specs.declared.Kind.TheVariants.{Segments03, Segments04}
 use Rattle.bodies.proofs.PieceLaws.{leb_same}
 use Rattle.envelope.specs.Judged.{Judged, closed_at, no_envelope}
@@ -130,7 +132,7 @@ tagged_either f s is = by (eqb f 3) s is
     by true s is = is
     by false [] is = is
     by false ([] ∷ later) is = is
-    by false ((t ∷ []) ∷ later) is = (both (tag t) _ is).left
+    by false ((t ∷ []) ∷ later) is = (and_parts (tag t) _ is).0
     by false ((t ∷ (s ∷ ss)) ∷ later) is = is
 
 -- where the sweep stands: from here on the same is found as from the start, with the rows gone over
@@ -171,7 +173,7 @@ module _ (m : Bytes) (framed : Framed m) (from f start before : ℕ) (old new : 
         closes = λ n.
             body_rest f n m start
             ∙ found_on n
-            ∙ ap (λ bs. found_in (tag_for f) true (n + (p.rows - before)) p.next bs (seek RS bs)) (drop_step m p.next swept.later.inside ∙ ap (λ b. b ∷ drop (p.next + 1) m) is)
+            ∙ ap (λ bs. found_in (tag_for f) true (n + (p.rows - before)) p.next bs (seek RS bs)) (drop_more m p.next 0 swept.later.inside ∙ ap (λ b. b ∷ drop (p.next + 1) m) is)
             ∙ list_last (tag_for f) (n + (p.rows - before)) p.next (drop (p.next + 1) m);
         noted = subst (λ (c : Cursor). Noted m from new p.rows c)
             (ap (λ t. cond t (indicator_at m (ahead m p.next 1)) (plain_row m Tag f p.next)) (eq-eqb (get_or m p.next 0) RS is) ∙ ap (indicator_at m) (sym (ahead_inside m p.next 1 (omega arith)))) swept.later.noted;

@@ -7,13 +7,13 @@ use native.Mathlib.Omega.{arith}
 use borrow.Author.Tests.{ltb-false, eqb-true}
 use lib.ListN.{length, get_or, drop}
 use lib.Dec.{ltb, eqb}
+use Rattle.std.proofs.lemmas.List.{drop_more}
 use Rattle.label.specs.declared.Reason.TheVariants.{BadFormatHeader}
 use Rattle.label.specs.declared.Version.TheVariants.{Version02, Version96}
 use Rattle.label.specs.Bytes.{Bytes, ascii, GS}
 use Rattle.label.specs.Formats.{widest, rule_of}
 use Rattle.label.specs.ReadEnvelope.{read_by}
 use Rattle.label.specs.ReadMessage.{agreement}
-use Rattle.leaves.proofs.Turns.{drop_step}
 use Rattle.pieces.specs.declared.Kind.{Kind}
 use Rattle.pieces.specs.declared.Kind.TheVariants.{Fields}
 use Rattle.envelope.specs.Judged.{closed_at, no_envelope}
@@ -65,9 +65,9 @@ module _ (m : Bytes) (at rows : ℕ) (ready : Begins m at) where
     bytes_there =
         let two : at + 1 + 1 ≡ at + 2 = omega arith in
         let three : at + 2 + 1 ≡ at + 3 = omega arith in
-        drop_step m at (omega (arith, fields_inside))
-        ∙ (λ j. gs j ∷ (drop_step m (at + 1) (omega (arith, fields_inside)) ∙ ap (λ n. get_or m (at + 1) 0 ∷ drop n m) two) j)
-        ∙ (λ j. GS ∷ (tens j ∷ (drop_step m (at + 2) (omega (arith, fields_inside)) ∙ ap (λ n. get_or m (at + 2) 0 ∷ drop n m) three) j))
+        drop_more m at 0 (omega (arith, fields_inside))
+        ∙ (λ j. gs j ∷ (drop_more m (at + 1) 0 (omega (arith, fields_inside)) ∙ ap (λ n. get_or m (at + 1) 0 ∷ drop n m) two) j)
+        ∙ (λ j. GS ∷ (tens j ∷ (drop_more m (at + 2) 0 (omega (arith, fields_inside)) ∙ ap (λ n. get_or m (at + 2) 0 ∷ drop n m) three) j))
         ∙ ap (λ x. GS ∷ (a ∷ (x ∷ drop (at + 3) m))) units
 
     by_version : transport_found m at

@@ -8,20 +8,20 @@ use borrow.Author.Tests.{eq-eqb}
 use lib.ListN.{length, get_or, drop}
 use lib.Dec.{eqb}
 use Rattle.std.specs.List.{zip, prefix_len}
+use Rattle.std.proofs.lemmas.Bool.{cond-true}
+use Rattle.std.proofs.lemmas.List.{drop_more}
 use Rattle.label.specs.Bytes.{Bytes}
 use Rattle.label.specs.ReadMessage.{agreement}
-use Rattle.label.proofs.Tests.{cond_yes}
-use Rattle.leaves.proofs.Turns.{drop_step}
 
 agree_none : (text : Bytes) → agreement text [] ≡ 0
 agree_none [] = refl
 agree_none (h ∷ hs) = refl
 
 agree_step : (text m : Bytes) (i j : ℕ) → i < length text → j < length m → agreement (drop i text) (drop j m) ≡ cond (eqb (get_or m j 0) (get_or text i 0)) (suc (agreement (drop (i + 1) text) (drop (j + 1) m))) 0
-agree_step text m i j hi hj = λ k. agreement (drop_step text i hi k) (drop_step m j hj k)
+agree_step text m i j hi hj = λ k. agreement (drop_more text i 0 hi k) (drop_more m j 0 hj k)
 
 pub agree_on : (text m : Bytes) (i j : ℕ) → i < length text → j < length m → get_or m j 0 ≡ get_or text i 0 → agreement (drop i text) (drop j m) ≡ suc (agreement (drop (i + 1) text) (drop (j + 1) m))
-agree_on text m i j hi hj same = agree_step text m i j hi hj ∙ cond_yes _ _ _ (eq-eqb _ _ same)
+agree_on text m i j hi hj same = agree_step text m i j hi hj ∙ cond-true _ _ _ (eq-eqb _ _ same)
 
 -- how many pairs in front are the same
 pub agree_pairs : (m text : Bytes) → prefix_len (λ (p : ℕ × ℕ). eqb p.0 p.1) (zip m text) ≡ agreement text m

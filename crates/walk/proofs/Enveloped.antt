@@ -5,9 +5,10 @@ use mathlib.Core.Bool.{true, false, not, ◌&&◌, false≢true, true≢false}
 use mathlib.Core.Logic.{◌⊎◌, inl, inr}
 use mathlib.Core.List.{List, [], ◌∷◌, ◌++◌, map, append_assoc, append-nil}
 use native.Mathlib.Omega.{arith}
-use borrow.Author.Tests.{leb-true}
+use borrow.Author.Tests.{leb-true, not-true}
 use lib.ListN.{length}
 use lib.Dec.{leb}
+use Rattle.std.proofs.lemmas.Bool.{and_parts}
 use Rattle.label.specs.declared.Limit.{Limit}
 use Rattle.label.specs.Bytes.{Bytes, EOT, FS, GS, RS, US, plain, capital_or_digit, every}
 use Rattle.label.specs.Limits.{longest, long_as, ◌to◌}
@@ -21,7 +22,7 @@ use Rattle.label.specs.Layout.{Part, mark, marks, bytes_of, separated, ended}
 use Rattle.label.specs.Envelope.{Envelope, fields, whole_rest, segments, elements, text, counted, Within}
 use Rattle.label.specs.Written.{value_row, body_row, piece_row, rowed, rowed_each, indicator, segment_parts, value_parts, parts}
 use Rattle.label.specs.Message.{is_rest, Each}
-use Rattle.label.proofs.Tests.{both, free_of, not_true}
+use Rattle.label.proofs.Tests.{free_of}
 use Rattle.label.proofs.Editions.{each_rule, known_in_widest}
 use Rattle.label.proofs.EnvelopeComplete.{text_without}
 use Rattle.leaves.specs.Seek.{seek}
@@ -37,8 +38,8 @@ version_wide Version96 = refl
 release_wide : (six : Bytes) → release six ≡ true → release_length ≡ length six
 unfolding release long_as
 release_wide six ok =
-    let k = both (leb 6 (length six)) (leb (length six) 6) (both (long_as (6 to 6) six) (every capital_or_digit six) ok).left in
-    omega (arith, leb-true 6 (length six) k.left, leb-true (length six) 6 k.right)
+    let k = and_parts (leb 6 (length six)) (leb (length six) 6) (and_parts (long_as (6 to 6) six) (every capital_or_digit six) ok).0 in
+    omega (arith, leb-true 6 (length six) k.0, leb-true (length six) 6 k.1)
 
 -- a counted format has two header values in front of its count, or none
 abbrev values_before : Rule → ℕ
@@ -68,8 +69,8 @@ module _ (m : Bytes) (f : ℕ) (tail : List Part) (count_due : Leads m (plain_ro
       let ps₁ = rowed value_row f t ∷ mark GS ∷ ps₂ in
       indicator_leads m f (as_counted (k ∷ l ∷ [])) (mark GS ∷ ps₁) known
       (mark_leads m (plain_row m TypeValue f) GS ps₁
-      (value_leads m f TypeValue CompressionValue (λ start end. refl) t (both (long_as k t) (every plain t) is_type).right ps₂
-      (value_leads m f CompressionValue CountValue (λ start end. refl) c (both (long_as l c) (every plain c) is_compression).right tail count_due)))
+      (value_leads m f TypeValue CompressionValue (λ start end. refl) t (and_parts (long_as k t) (every plain t) is_type).1 ps₂
+      (value_leads m f CompressionValue CountValue (λ start end. refl) c (and_parts (long_as l c) (every plain c) is_compression).1 tail count_due)))
 
   counted_leads : (limits : List Limit) (vs : List Bytes) → TwoOrNone (as_counted limits) → rule_of widest f ≡ as_counted limits → header_values limits vs ≡ true
       → Leads m (indicator_at m) (indicator f ∷ (value_parts f vs ++ tail))
@@ -79,12 +80,12 @@ module _ (m : Bytes) (f : ℕ) (tail : List Part) (count_due : Leads m (plain_ro
   counted_leads (k ∷ []) vs (inl is) known are = absurd (omega arith)
   counted_leads (k ∷ []) vs (inr is) known are = absurd (omega arith)
   counted_leads (k ∷ (l ∷ [])) [] of known are = absurd (false≢true are)
-  counted_leads (k ∷ (l ∷ [])) (t ∷ []) of known are = absurd (false≢true (both (header_value k t) false are).right)
+  counted_leads (k ∷ (l ∷ [])) (t ∷ []) of known are = absurd (false≢true (and_parts (header_value k t) false are).1)
   counted_leads (k ∷ (l ∷ [])) (t ∷ (c ∷ [])) of known are =
-      let h = both (header_value k t) (header_value l c && true) are in
-      two_lead k l t c known h.left (both (header_value l c) true h.right).left
+      let h = and_parts (header_value k t) (header_value l c && true) are in
+      two_lead k l t c known h.0 (and_parts (header_value l c) true h.1).0
   counted_leads (k ∷ (l ∷ [])) (t ∷ (c ∷ (v ∷ vs))) of known are =
-      absurd (false≢true (both (header_value l c) false (both (header_value k t) (header_value l c && false) are).right).right)
+      absurd (false≢true (and_parts (header_value l c) false (and_parts (header_value k t) (header_value l c && false) are).1).1)
   counted_leads (k ∷ (l ∷ (j ∷ ls))) vs (inl is) known are = absurd (omega arith)
   counted_leads (k ∷ (l ∷ (j ∷ ls))) vs (inr is) known are = absurd (omega arith)
 
@@ -94,11 +95,11 @@ module _ (edition : Edition) (m : Bytes) (short : length m ≤ longest) where
     unfolding parts opening following transport
     envelope_leads (fields f v []) w closed = absurd (false≢true w.as_stated)
     envelope_leads (fields f v (p ∷ ps)) w closed =
-        let k = both (every plain p) (every (every plain) ps) w.plain_bytes in
+        let k = and_parts (every plain p) (every (every plain) ps) w.plain_bytes in
         let qs = separated GS (rowed_each piece_row f (p ∷ ps)) ++ (mark RS ∷ later) in
         indicator_leads m f as_fields (mark GS ∷ rowed value_row f (version_digits v) ∷ qs) (known_in_widest edition f _ w.known refl)
         (mark_leads m (λ at. standing VersionValue f at 2) GS (rowed value_row f (version_digits v) ∷ qs) λ at h.
-        row_yields m VersionValue f at 2 (version_digits v) qs (version_wide v) h (pieces_lead m f later next p ps k.left k.right))
+        row_yields m VersionValue f at 2 (version_digits v) qs (version_wide v) h (pieces_lead m f later next p ps k.0 k.1))
     envelope_leads (whole_rest f body) w closed = absurd (true≢false closed)
     envelope_leads (segments f six ss) w closed =
         let qs = ended FS (map (segment_parts f) ss) ++ (mark RS ∷ later) in
@@ -108,10 +109,10 @@ module _ (edition : Edition) (m : Bytes) (short : length m ≤ longest) where
         (marks_lead m (plain_row m Tag f) bs qs (segments_lead m f later next w.is_tag ss w.one_or_more w.plain_bytes w.all_tagged))
     envelope_leads (elements f []) w closed = absurd (true≢false w.one_or_more)
     envelope_leads (elements f (p ∷ ps)) w closed =
-        let k = both (every plain p) (every (every plain) ps) w.plain_bytes in
+        let k = and_parts (every plain p) (every (every plain) ps) w.plain_bytes in
         let qs = separated GS (rowed_each piece_row f (p ∷ ps)) ++ (mark RS ∷ later) in
         indicator_leads m f (as_elements w.is_element) (mark GS ∷ qs) (known_in_widest edition f _ w.known refl)
-        (mark_leads m (plain_row m Piece f) GS qs (pieces_lead m f later next p ps k.left k.right))
+        (mark_leads m (plain_row m Piece f) GS qs (pieces_lead m f later next p ps k.0 k.1))
     envelope_leads (text f body) w closed =
         let ok = free_of RS w.permitted (text_without edition f w.permitted w.known) body w.permitted_bytes in
         indicator_leads m f (as_text w.permitted) (rowed body_row f body ∷ mark RS ∷ later) (known_in_widest edition f _ w.known refl) λ at h.
@@ -125,10 +126,10 @@ module _ (edition : Edition) (m : Bytes) (short : length m ≤ longest) where
   pub envelopes_lead : (es : List Envelope) → Each (Within edition) es → every (λ e. not (is_rest e)) es ≡ true → Leads m (indicator_at m) (ended RS (map parts es) ++ (mark EOT ∷ []))
   envelopes_lead [] within closed = λ at h. tt
   envelopes_lead (e ∷ es) within closed =
-      let k = both (not (is_rest e)) (every (λ e. not (is_rest e)) es) closed in
+      let k = and_parts (not (is_rest e)) (every (λ e. not (is_rest e)) es) closed in
       let later = ended RS (map parts es) ++ (mark EOT ∷ []) in
       subst (Leads m (indicator_at m)) (sym (append_assoc (parts e) (mark RS ∷ ended RS (map parts es)) (mark EOT ∷ [])))
-      (envelope_leads later (envelopes_lead es within.1 k.right) e within.0 (not_true (is_rest e) k.left))
+      (envelope_leads later (envelopes_lead es within.1 k.1) e within.0 (not-true (is_rest e) k.0))
 
   -- the one envelope of format 02
   pub alone_leads : (e : Envelope) → Within edition e → is_rest e ≡ true → Leads m (indicator_at m) (parts e)

@@ -4,9 +4,11 @@ use mathlib.Core.Path.{◌≡◌, refl, sym, ap, ◌∙◌, subst}
 use mathlib.Core.Bool.{Bool, true, false, not, cond, false≢true, true≢false}
 use mathlib.Core.List.{List, [], ◌∷◌, ◌++◌, map, append_assoc}
 use native.Mathlib.Omega.{arith}
-use borrow.Author.Tests.{le-leb, lt-ltb}
+use borrow.Author.Tests.{le-leb, lt-ltb, not-true}
 use lib.ListN.{length, get_or, take, drop, length-append, length-drop}
 use lib.Dec.{eqb, ltb}
+use Rattle.std.proofs.lemmas.Bool.{and_parts}
+use Rattle.std.specs.Cmp.Derive.{both_true}
 use Rattle.label.specs.Bytes.{Bytes, FS, GS, RS, US, plain, digit, between, every, is_empty}
 use Rattle.label.specs.Limits.{longest, long_as, ◌to◌}
 use Rattle.label.specs.Values.{count, value_after, value}
@@ -15,7 +17,7 @@ use Rattle.label.specs.Formats.{Rule, widest, rule_of}
 use Rattle.label.specs.Layout.{Part, mark, bytes_of, rows_from, further, ended}
 use Rattle.label.specs.Written.{value_row, piece_row, tag_row, element_row, sub_element_row, body_row, rowed, rowed_each, two_digits, indicator, element_parts, segment_parts}
 use Rattle.label.specs.Envelope.{plain_element}
-use Rattle.label.proofs.Tests.{both, and_both, free, not_true, plain_without, Implies, every_implies}
+use Rattle.label.proofs.Tests.{free, plain_without, Implies, every_implies}
 use Rattle.label.proofs.SegmentLaws.{tagged_some}
 use Rattle.leaves.specs.Seek.{seek}
 use Rattle.walk.specs.declared.Stage.{Stage}
@@ -28,14 +30,14 @@ use Rattle.walk.proofs.Walks.{Yields, Leads, first_of, first_further, behind_byt
 -- the first byte of plain bytes and others is no RS, if those others do not begin with one
 first_plain : (p rest : Bytes) → every plain p ≡ true → eqb (first_of rest) RS ≡ false → eqb (first_of (p ++ rest)) RS ≡ false
 first_plain [] rest ok other = other
-first_plain (b ∷ p) rest ok other = plain_without RS (omega arith) b (both (plain b) (every plain p) ok).left
+first_plain (b ∷ p) rest ok other = plain_without RS (omega arith) b (and_parts (plain b) (every plain p) ok).0
 
 -- a search ends at the first byte that it looks for
 pub seek_stops : (c : ℕ) (p rest : Bytes) → free c p ≡ true → eqb c c ≡ true → seek c (p ++ (c ∷ rest)) ≡ length p
 seek_stops c [] rest ok same = ap (λ t. cond t 0 (suc (seek c rest))) same
 seek_stops c (b ∷ p) rest ok same =
-    let k = both (not (eqb b c)) (free c p) ok in
-    ap (λ t. cond t 0 (suc (seek c (p ++ (c ∷ rest))))) (not_true (eqb b c) k.left) ∙ ap suc (seek_stops c p rest k.right same)
+    let k = and_parts (not (eqb b c)) (free c p) ok in
+    ap (λ t. cond t 0 (suc (seek c (p ++ (c ∷ rest))))) (not-true (eqb b c) k.0) ∙ ap suc (seek_stops c p rest k.1 same)
 
 -- digits that make a number below 10,000 are counted to their end
 value_least : (n : ℕ) (ds : Bytes) → n ≤ value_after n ds
@@ -49,17 +51,17 @@ count_stops n [] rest ok ends small = none rest ends
     none [] h = refl
     none (b ∷ bs) h = ap (λ t. cond t (count_from (cond (ltb n longest) (10 * n + (b - 0x30)) n) bs) n) h
 count_stops n (d ∷ ds) rest ok ends small =
-    let k = both (digit d) (every digit ds) ok in
+    let k = and_parts (digit d) (every digit ds) ok in
     let least = value_least (10 * n + (d - 0x30)) ds in
-    ap (λ t. cond t (count_from (cond (ltb n longest) (10 * n + (d - 0x30)) n) (ds ++ rest)) n) k.left
+    ap (λ t. cond t (count_from (cond (ltb n longest) (10 * n + (d - 0x30)) n) (ds ++ rest)) n) k.0
     ∙ ap (λ t. count_from (cond t (10 * n + (d - 0x30)) n) (ds ++ rest)) (lt-ltb n longest (omega arith))
-    ∙ count_stops (10 * n + (d - 0x30)) ds rest k.right ends small
+    ∙ count_stops (10 * n + (d - 0x30)) ds rest k.1 ends small
 
 pub digit_plain : Implies digit plain
 unfolding digit plain between
 digit_plain b is =
     let k = digit_value b is in
-    and_both (le-leb 0x20 b (omega arith)) (le-leb b 0x7E (omega arith))
+    both_true (le-leb 0x20 b (omega arith)) (le-leb b 0x7E (omega arith))
 
 module _ (m : Bytes) (f : ℕ) where
   -- an indicator, and what its format's rule says follows
@@ -83,11 +85,11 @@ module _ (m : Bytes) (f : ℕ) where
         choice_leads m GS false (λ end. plain_row m Piece f (ahead m end 1)) (λ end. indicator_at m (ahead m end 1)) (mark RS ∷ later) refl
         (mark_leads m (indicator_at m) RS later next)
     pieces_lead p (q ∷ qs) ok oks =
-        let k = both (every plain q) (every (every plain) qs) oks in
+        let k = and_parts (every plain q) (every (every plain) qs) oks in
         let ps = rowed piece_row f q ∷ (further GS (rowed_each piece_row f qs) ++ (mark RS ∷ later)) in
         plain_leads m Piece f p (mark GS ∷ ps) ok refl λ start h.
         choice_leads m GS true (λ end. plain_row m Piece f (ahead m end 1)) (λ end. indicator_at m (ahead m end 1)) (mark GS ∷ ps) refl
-        (mark_leads m (plain_row m Piece f) GS ps (pieces_lead q qs k.left k.right))
+        (mark_leads m (plain_row m Piece f) GS ps (pieces_lead q qs k.0 k.1))
 
     -- a body of a known length
     pub body_yields : (at n : ℕ) (p : Bytes) → n ≡ length p → drop at m ≡ p ++ (RS ∷ bytes_of later) → Yields m (standing Body f at n) (rows_from at (rowed body_row f p ∷ mark RS ∷ later))
@@ -133,12 +135,12 @@ module _ (m : Bytes) (f : ℕ) where
   element_leads : (stage : Stage) → InSegment stage → (s : Bytes) (ss : List Bytes) → every (every plain) (s ∷ ss) ≡ true
       → (ps : List Part) → plain (first_of (bytes_of ps)) ≡ false → Leads m (after_sub_element m f) ps → Leads m (plain_row m stage f) (element_parts (kind_of stage) f (s ∷ ss) ++ ps)
   unfolding following plain between
-  element_leads stage same s [] ok ps ends leads = sub_element_leads stage same s ps (both (every plain s) true ok).left ends leads
+  element_leads stage same s [] ok ps ends leads = sub_element_leads stage same s ps (and_parts (every plain s) true ok).0 ends leads
   element_leads stage same s (u ∷ us) ok ps ends leads =
-      let k = both (every plain s) (every (every plain) (u ∷ us)) ok in
+      let k = and_parts (every plain s) (every (every plain) (u ∷ us)) ok in
       let qs = element_parts sub_element_row f (u ∷ us) ++ ps in
-      sub_element_leads stage same s (mark US ∷ qs) k.left refl
-      (us_leads qs (element_leads FurtherSubElement (λ start end. refl) u us k.right ps ends leads))
+      sub_element_leads stage same s (mark US ∷ qs) k.0 refl
+      (us_leads qs (element_leads FurtherSubElement (λ start end. refl) u us k.1 ps ends leads))
 
   -- a segment's later elements and its FS
   abbrev later_elements : List Element → List Part → List Part
@@ -152,11 +154,11 @@ module _ (m : Bytes) (f : ℕ) where
   later_elements_lead [] ok ps leads = leads
   later_elements_lead ([] ∷ es) ok ps leads = absurd (false≢true ok)
   later_elements_lead ((s ∷ ss) ∷ es) ok ps leads =
-      let k = both (every (every plain) (s ∷ ss)) (every plain_element es) ok in
+      let k = and_parts (every (every plain) (s ∷ ss)) (every plain_element es) ok in
       subst (λ (qs : List Part). Leads m (after_sub_element m f) (mark GS ∷ qs)) (sym (append_assoc (element_parts element_row f (s ∷ ss)) (further GS (map (element_parts element_row f) es)) (mark FS ∷ ps)))
       (gs_leads (element_parts element_row f (s ∷ ss) ++ later_elements es ps)
-      (element_leads LaterElement (λ start end. refl) s ss k.left (later_elements es ps) (later_first (λ b. plain b ≡ false) refl refl es ps)
-      (later_elements_lead es k.right ps leads)))
+      (element_leads LaterElement (λ start end. refl) s ss k.0 (later_elements es ps) (later_first (λ b. plain b ≡ false) refl refl es ps)
+      (later_elements_lead es k.1 ps leads)))
 
   segment_leads : (s : Segment) → is_empty s ≡ false → every plain_element s ≡ true → (ps : List Part) → Leads m (after_sub_element m f) (mark FS ∷ ps)
       → Leads m (plain_row m Tag f) (segment_parts f s ++ (mark FS ∷ ps))
@@ -164,21 +166,21 @@ module _ (m : Bytes) (f : ℕ) where
   segment_leads [] some ok ps leads = absurd (true≢false some)
   segment_leads ([] ∷ es) some ok ps leads = absurd (false≢true ok)
   segment_leads ((t ∷ ss) ∷ es) some ok ps leads =
-      let k = both (every (every plain) (t ∷ ss)) (every plain_element es) ok in
+      let k = and_parts (every (every plain) (t ∷ ss)) (every plain_element es) ok in
       subst (Leads m (plain_row m Tag f)) (sym (append_assoc (element_parts tag_row f (t ∷ ss)) (further GS (map (element_parts element_row f) es)) (mark FS ∷ ps)))
-      (element_leads Tag (λ start end. refl) t ss k.left (later_elements es ps) (later_first (λ b. plain b ≡ false) refl refl es ps)
-      (later_elements_lead es k.right ps leads))
+      (element_leads Tag (λ start end. refl) t ss k.0 (later_elements es ps) (later_first (λ b. plain b ≡ false) refl refl es ps)
+      (later_elements_lead es k.1 ps leads))
 
   -- no segment begins with RS
   segment_first : (s : Segment) → is_empty s ≡ false → every plain_element s ≡ true → (ps : List Part) → eqb (first_of (bytes_of (segment_parts f s ++ (mark FS ∷ ps)))) RS ≡ false
   segment_first [] some ok ps = absurd (true≢false some)
   segment_first ([] ∷ es) some ok ps = absurd (false≢true ok)
   segment_first ((t ∷ []) ∷ es) some ok ps =
-      let k = both (every (every plain) (t ∷ [])) (every plain_element es) ok in
-      first_plain t (bytes_of (later_elements es ps)) (both (every plain t) true k.left).left (later_first (λ b. eqb b RS ≡ false) refl refl es ps)
+      let k = and_parts (every (every plain) (t ∷ [])) (every plain_element es) ok in
+      first_plain t (bytes_of (later_elements es ps)) (and_parts (every plain t) true k.0).0 (later_first (λ b. eqb b RS ≡ false) refl refl es ps)
   segment_first ((t ∷ (s ∷ ss)) ∷ es) some ok ps =
-      let k = both (every (every plain) (t ∷ (s ∷ ss))) (every plain_element es) ok in
-      first_plain t _ (both (every plain t) (every (every plain) (s ∷ ss)) k.left).left refl
+      let k = and_parts (every (every plain) (t ∷ (s ∷ ss))) (every plain_element es) ok in
+      first_plain t _ (and_parts (every plain t) (every (every plain) (s ∷ ss)) k.0).0 refl
 
   module _ (later : List Part) (next : Leads m (indicator_at m) later) where
     -- segments and the envelope's RS
@@ -197,26 +199,26 @@ module _ (m : Bytes) (f : ℕ) where
     unfolding after_segment
     after_segment_leads is_tag [] ok tags = choice_leads m RS true _ _ (mark RS ∷ later) refl (mark_leads m (indicator_at m) RS later next)
     after_segment_leads is_tag (s ∷ ss) ok tags =
-        let k = both (every plain_element s) (every (every plain_element) ss) ok in
-        let t = both (tagged is_tag s) (every (tagged is_tag) ss) tags in
-        let some = tagged_some is_tag s t.left in
-        choice_leads m RS false _ _ (segments_left (s ∷ ss)) (ap (λ ps. eqb (first_of (bytes_of ps)) RS) (segments_left_lem s ss) ∙ segment_first s some k.left (segments_left ss))
-        (first_segment_leads s ss some k.left (after_segment_leads is_tag ss k.right t.right))
+        let k = and_parts (every plain_element s) (every (every plain_element) ss) ok in
+        let t = and_parts (tagged is_tag s) (every (tagged is_tag) ss) tags in
+        let some = tagged_some is_tag s t.0 in
+        choice_leads m RS false _ _ (segments_left (s ∷ ss)) (ap (λ ps. eqb (first_of (bytes_of ps)) RS) (segments_left_lem s ss) ∙ segment_first s some k.0 (segments_left ss))
+        (first_segment_leads s ss some k.0 (after_segment_leads is_tag ss k.1 t.1))
 
     pub segments_lead : (is_tag : Bytes → Bool) (ss : List Segment) → is_empty ss ≡ false → every (every plain_element) ss ≡ true → every (tagged is_tag) ss ≡ true
         → Leads m (plain_row m Tag f) (segments_left ss)
     segments_lead is_tag [] some ok tags = absurd (true≢false some)
     segments_lead is_tag (s ∷ ss) some ok tags =
-        let k = both (every plain_element s) (every (every plain_element) ss) ok in
-        let t = both (tagged is_tag s) (every (tagged is_tag) ss) tags in
-        first_segment_leads s ss (tagged_some is_tag s t.left) k.left (after_segment_leads is_tag ss k.right t.right)
+        let k = and_parts (every plain_element s) (every (every plain_element) ss) ok in
+        let t = and_parts (tagged is_tag s) (every (tagged is_tag) ss) tags in
+        first_segment_leads s ss (tagged_some is_tag s t.0) k.0 (after_segment_leads is_tag ss k.1 t.1)
 
     -- the count of format 09 and its payload, in a message that is not too long
     pub count_leads : length m ≤ longest → (n payload : Bytes) → count n ≡ true → value n ≡ length payload
         → Leads m (plain_row m CountValue f) (rowed value_row f n ∷ mark GS ∷ rowed body_row f payload ∷ mark RS ∷ later)
     unfolding following plain digit between count
     count_leads short n payload ok counts =
-        let ds = (both (long_as (1 to 15) n) (every digit n) ok).right in
+        let ds = (and_parts (long_as (1 to 15) n) (every digit n) ok).1 in
         let ps = rowed body_row f payload ∷ mark RS ∷ later in
         plain_leads m CountValue f n (mark GS ∷ ps) (every_implies digit plain digit_plain n ds) refl λ start h.
         let left = bytes_of (mark GS ∷ ps) in

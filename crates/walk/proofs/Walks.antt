@@ -9,10 +9,10 @@ use native.Mathlib.Omega.{arith}
 use lib.ListN.{length, get_or, take, drop}
 use lib.Seq.{drop-drop, drop-append_seam, take-append_seam, get_or-drop}
 use lib.Dec.{eqb}
+use Rattle.std.proofs.lemmas.Bool.{and_parts}
 use Rattle.label.specs.Bytes.{Bytes, plain, every}
 use Rattle.label.specs.Layout.{Part, mark, marks, Row, bytes_of, rows_from, further}
 use Rattle.label.specs.Written.{rowed}
-use Rattle.label.proofs.Tests.{both}
 use Rattle.label.proofs.Laid.{bytes_append, bytes_marks}
 use Rattle.walk.specs.declared.Stage.{Stage}
 use Rattle.walk.specs.declared.Cursor.{Cursor}
@@ -40,8 +40,8 @@ run_none (b ∷ bs) h = ap (λ t. cond t (suc (plain_run bs)) 0) h
 run_stops : (p rest : Bytes) → every plain p ≡ true → plain (first_of rest) ≡ false → plain_run (p ++ rest) ≡ length p
 run_stops [] rest ok ends = run_none rest ends
 run_stops (b ∷ p) rest ok ends =
-    let k = both (plain b) (every plain p) ok in
-    ap (λ t. cond t (suc (plain_run (p ++ rest))) 0) k.left ∙ ap suc (run_stops p rest k.right ends)
+    let k = and_parts (plain b) (every plain p) ok in
+    ap (λ t. cond t (suc (plain_run (p ++ rest))) 0) k.0 ∙ ap suc (run_stops p rest k.1 ends)
 
 -- marks in front of parts
 marks_bytes : (bs : Bytes) (ps : List Part) → bytes_of (marks bs ++ ps) ≡ bs ++ bytes_of ps

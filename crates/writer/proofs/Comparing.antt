@@ -9,6 +9,8 @@ use borrow.Author.Tests.{leb-true, eqb-true, eq-eqb}
 use lib.ListN.{length, take, drop, length-take, length-drop}
 use lib.Seq.{take-append_seam, drop-append_seam}
 use lib.Dec.{eqb}
+use Rattle.std.proofs.lemmas.Bool.{and_parts, and_right}
+use Rattle.std.specs.Cmp.Derive.{both_true}
 use Rattle.label.specs.Bytes.{Bytes, every}
 use Rattle.label.specs.declared.Edition.{Edition}
 use Rattle.label.specs.ReadMessage.{reading}
@@ -19,7 +21,6 @@ use Rattle.label.specs.Layout.{Item, Part, mark, item, Row, rows_from, items_of}
 use Rattle.label.specs.Message.{header}
 use Rattle.label.specs.Rendered.{marks_between, rendered_after, rendered}
 use Rattle.label.specs.Writing.{rows_in, inside, item_in, same_items}
-use Rattle.label.proofs.Tests.{both, and_both}
 use Rattle.label.proofs.RowItems.{same_items_lem, items_same}
 use Rattle.walk.specs.declared.Cursor.{Cursor}
 use Rattle.walk.specs.Cursors.{row_of, next_cursor}
@@ -47,17 +48,17 @@ record LikeSo (i j : Item) : Type 0 where
 like_so : (i j : Item) → like_item i j ≡ true → LikeSo i j
 unfolding alike_row
 like_so i j h =
-    let k = both _ _ h in
-    let l = both _ _ k.left in
-    record { kinds = eqb-true i.kind j.kind l.left; formats = eqb-true i.format j.format l.right; lengths = eqb-true (length i.content) (length j.content) k.right }
+    let k = and_parts _ _ h in
+    let l = and_parts _ _ k.0 in
+    record { kinds = eqb-true i.kind j.kind l.0; formats = eqb-true i.format j.format l.1; lengths = eqb-true (length i.content) (length j.content) k.1 }
 
 like_self : (i : Item) → like_item i i ≡ true
 unfolding alike_row
-like_self i = and_both (and_both (eq-eqb i.kind i.kind refl) (eq-eqb i.format i.format refl)) (eq-eqb (length i.content) (length i.content) refl)
+like_self i = both_true (both_true (eq-eqb i.kind i.kind refl) (eq-eqb i.format i.format refl)) (eq-eqb (length i.content) (length i.content) refl)
 
 likes_self : (is : List Item) → like_items is is ≡ true
 likes_self [] = refl
-likes_self (i ∷ is) = and_both (like_self i) (likes_self is)
+likes_self (i ∷ is) = both_true (like_self i) (likes_self is)
 
 -- bytes of the same length in front of others
 record Front (a b x y : Bytes) : Type 0 where
@@ -83,11 +84,11 @@ same_after p q [] [] kinds like same = refl
 same_after p q [] (j ∷ js) kinds like same = absurd (false≢true like)
 same_after p q (i ∷ is) [] kinds like same = absurd (false≢true like)
 same_after p q (i ∷ is) (j ∷ js) kinds like same =
-    let k = both (like_item i j) (like_items is js) like in
-    let so = like_so i j k.left in
+    let k = and_parts (like_item i j) (like_items is js) like in
+    let so = like_so i j k.0 in
     let marks : marks_between (rule_of widest i.format) p.kind i.kind ≡ marks_between (rule_of widest j.format) q.kind j.kind
     = λ t. marks_between (rule_of widest (so.formats t)) (kinds t) (so.kinds t) in
-    same_content i j is js k.left (same_after i j is js so.kinds k.right)
+    same_content i j is js k.0 (same_after i j is js so.kinds k.1)
     (append_cancel_left (marks_between (rule_of widest i.format) p.kind i.kind) _ _
     (same ∙ ap (λ b. b ++ (j.content ++ rendered_after j js)) (sym marks)))
 
@@ -97,8 +98,8 @@ same_rendered [] [] like same = refl
 same_rendered [] (j ∷ js) like same = absurd (false≢true like)
 same_rendered (i ∷ is) [] like same = absurd (false≢true like)
 same_rendered (i ∷ is) (j ∷ js) like same =
-    let k = both (like_item i j) (like_items is js) like in
-    same_content i j is js k.left (same_after i j is js (like_so i j k.left).kinds k.right) (append_cancel_left header _ _ same)
+    let k = and_parts (like_item i j) (like_items is js) like in
+    same_content i j is js k.0 (same_after i j is js (like_so i j k.0).kinds k.1) (append_cancel_left header _ _ same)
 
 -- so that items rendered to the same bytes are the same if they are alike, and only then
 pub same_as_like : (is js : List Item) → rendered is ≡ rendered js → same_items is js ≡ like_items is js
@@ -124,9 +125,9 @@ rows_like held at [] (r ∷ rs) lie = refl
 rows_like held at (mark b ∷ ps) rs lie = rows_like held (at + 1) ps rs lie
 rows_like held at (item i ∷ ps) [] lie = refl
 rows_like held at (item i ∷ ps) (r ∷ rs) lie =
-    let k = both (inside held r) (every (inside held) rs) lie in
-    λ t. eqb i.kind r.kind && eqb i.format r.format && eqb (length i.content) (sym (long_as_said held r k.left) t)
-    && rows_like held (at + length i.content) ps rs k.right t
+    let k = and_parts (inside held r) (every (inside held) rs) lie in
+    λ t. eqb i.kind r.kind && eqb i.format r.format && eqb (length i.content) (sym (long_as_said held r k.0) t)
+    && rows_like held (at + length i.content) ps rs k.1 t
 
 -- as many rows as numbers make
 pub rows_counted : (ns : List ℕ) → length (rows_in ns) ≡ length ns / row_width
@@ -137,16 +138,12 @@ rows_counted (k ∷ (f ∷ (s ∷ []))) = refl
 rows_counted (k ∷ (f ∷ (s ∷ (l ∷ [])))) = refl
 rows_counted (k ∷ (f ∷ (s ∷ (l ∷ (o ∷ ns))))) = let more = rows_counted ns in omega arith
 
-and_none : (a : Bool) {b : Bool} → false ≡ b → false ≡ (a && b)
-and_none true none = none
-and_none false none = refl
-
 -- rows that are not as many are not alike
 pub not_as_many : (rs ss : List Row) → (length rs ≡ length ss → ⊥) → false ≡ alike rs ss
 not_as_many [] [] other = absurd (other refl)
 not_as_many [] (s ∷ ss) other = refl
 not_as_many (r ∷ rs) [] other = refl
-not_as_many (r ∷ rs) (s ∷ ss) other = and_none (alike_row r s) (not_as_many rs ss (λ same. other (ap suc same)))
+not_as_many (r ∷ rs) (s ∷ ss) other = sym (and_right (alike_row r s) _ (sym (not_as_many rs ss (λ same. other (ap suc same)))))
 
 -- The loop: the cursor yields the rows that are left, and whether they are alike is whether all are
 pub record Compared (m : Bytes) (all : List Row) (ns : List ℕ) (c : Cursor) (left : List ℕ) : Type 0 where

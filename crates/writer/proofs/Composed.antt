@@ -8,6 +8,7 @@ use native.Mathlib.Omega.{arith}
 use borrow.Author.Tests.{lt-ltb, le-ltb}
 use lib.Dec.{eqb}
 use lib.ListN.{length, drop}
+use Rattle.std.proofs.lemmas.Bool.Decides.{nat_tests}
 use Rattle.label.specs.declared.WriteReason.{WriteReason}
 use Rattle.label.specs.declared.WriteReason.TheVariants.{BadRows, NoSuchMessage, NoOutputRoom}
 use Rattle.label.specs.Bytes.{Bytes}
@@ -33,8 +34,7 @@ unfolding all_definitions
 from_nothing edition = refl
 
 pub some_numbers : (ns : List ℕ) → eqb (length ns) 0 ≡ false → 0 < length ns
-some_numbers [] is = cc
-some_numbers (n ∷ ns) is = omega arith
+some_numbers ns is = grind (arith, nat_tests)
 
 module _ (edition : Edition) (held : Bytes) (ns : List ℕ) where
   abbrev items : List Item

@@ -8,6 +8,7 @@ use borrow.Author.Tests.{leb-true, leb-false}
 use lib.Dec.{leb}
 use lib.ListN.{length, length-append}
 use Rattle.std.specs.Prelude.{Option, Some, None, Result, Ok, Err, IsOk, OnOk, OnErr}
+use Rattle.std.proofs.lemmas.Bool.{and_parts}
 use Rattle.label.specs.Bytes.{Bytes, every}
 use Rattle.label.specs.Limits.{longest, row_width}
 use Rattle.label.specs.Formats.{widest, rule_of}
@@ -16,7 +17,6 @@ use Rattle.label.specs.Message.{header}
 use Rattle.label.specs.Rendered.{ending, rendered_after, rendered}
 use Rattle.label.specs.Writing.{rows_in, inside, item_in, items_in}
 use Rattle.label.specs.Counting.{row_from}
-use Rattle.label.proofs.Tests.{Both, both}
 use Rattle.given.proofs.GivenLaws.{rows_cut, no_row_left}
 use Rattle.writer.specs.Laying.{marks_before, laid}
 
@@ -80,18 +80,18 @@ module _ (held : Bytes) (ns out : Bytes) where
     split : rows_in left ≡ row ∷ rows_in rest
     split = ap rows_in cut ∙ rows_cut x rest five ∙ ap (λ r. r ∷ rows_in rest) (sym is)
 
-    here : Both (inside held row) (every (inside held) (rows_in rest))
-    here = both _ _ (sym (ap (every (inside held)) split) ∙ turn.lie)
+    here : (inside held row ≡ true) × (every (inside held) (rows_in rest) ≡ true)
+    here = and_parts _ _ (sym (ap (every (inside held)) split) ∙ turn.lie)
 
     pub turn_inside : inside held row ≡ true
-    turn_inside = here.left
+    turn_inside = here.0
 
     whole_here : out ++ (laid held before row ++ behind held (Some row) (rows_in rest)) ≡ rendered (items_in held ns)
     whole_here = ap (λ b. out ++ b) (sym (ap (behind held before) split ∙ behind_row held before row (rows_in rest))) ∙ turn.whole
 
     pub turn_next : (out' : Bytes) → out' ≡ out ++ laid held before row → Turn held ns out' (Some row) rest
     turn_next out' put = record {
-      lie = here.right;
+      lie = here.1;
       whole = ap (λ o. o ++ behind held (Some row) (rows_in rest)) put ∙ append_assoc out (laid held before row) (behind held (Some row) (rows_in rest)) ∙ whole_here;
     }
 

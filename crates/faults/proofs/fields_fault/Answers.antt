@@ -3,9 +3,9 @@ use mathlib.Core.Path.{sym, ◌∙◌}
 use mathlib.Core.Bool.{◌&&◌, ◌||◌}
 use Prim.Native.Nat.{◌+◌}
 use lib.Dec.{ltb}
+use Rattle.std.proofs.lemmas.Bool.{cond-true, cond-false}
 use Rattle.label.specs.Bytes.{GS}
 use Rattle.label.specs.Fields.{least_fields}
-use Rattle.label.proofs.Tests.{cond_yes, cond_no}
 use Rattle.bodies.proofs.RuleLaws.{tally_inside}
 use Rattle.faults.proofs.FaultLaws.{in_fields}
 use borrow.Author.Rules.{rules}
@@ -18,7 +18,7 @@ overflow_add-fields c = let is = c.tally-fields.ensures in
 
 pub returns-then-fields-most : goal.returns-then-fields-most
 returns-then-fields-most c = let args = c.args in
-    sym (cond_yes _ _ _ ((λ j. ltb (sym c.tally-fields.ensures j + 1) least_fields || ltb (sym c.most_fields-most.ensures j) (sym c.tally-fields.ensures j + 1)) ∙ c.if-fields-most.true))
+    sym (cond-true _ _ _ ((λ j. ltb (sym c.tally-fields.ensures j + 1) least_fields || ltb (sym c.most_fields-most.ensures j) (sym c.tally-fields.ensures j + 1)) ∙ c.if-fields-most.true))
     ∙ in_fields args.version args.body.now
 
 pub returns-then-fields-last_empty : goal.returns-then-fields-last_empty
@@ -26,8 +26,8 @@ returns-then-fields-last_empty c = let args = c.args in
     let count = sym c.tally-fields.ensures in
     let most = sym c.most_fields-most.ensures in
     sym
-    (cond_no _ _ _ ((λ j. ltb (count j + 1) least_fields || ltb (most j) (count j + 1)) ∙ c.if-fields-most.false)
-    ∙ cond_yes _ _ _ ((λ j. ltb least_fields (count j + 1) && sym c.last_empty.ensures j) ∙ c.if-fields-last_empty.true))
+    (cond-false _ _ _ ((λ j. ltb (count j + 1) least_fields || ltb (most j) (count j + 1)) ∙ c.if-fields-most.false)
+    ∙ cond-true _ _ _ ((λ j. ltb least_fields (count j + 1) && sym c.last_empty.ensures j) ∙ c.if-fields-last_empty.true))
     ∙ in_fields args.version args.body.now
 
 pub returns : goal.returns
@@ -36,6 +36,6 @@ returns c = let args = c.args in
     let most = sym c.most_fields-most.ensures in
     c.first_fault.ensures
     ∙ sym
-    (cond_no _ _ _ ((λ j. ltb (count j + 1) least_fields || ltb (most j) (count j + 1)) ∙ c.if-fields-most.false)
-    ∙ cond_no _ _ _ ((λ j. ltb least_fields (count j + 1) && sym c.last_empty.ensures j) ∙ c.if-fields-last_empty.false))
+    (cond-false _ _ _ ((λ j. ltb (count j + 1) least_fields || ltb (most j) (count j + 1)) ∙ c.if-fields-most.false)
+    ∙ cond-false _ _ _ ((λ j. ltb least_fields (count j + 1) && sym c.last_empty.ensures j) ∙ c.if-fields-last_empty.false))
     ∙ in_fields args.version args.body.now

@@ -6,11 +6,12 @@ use native.Mathlib.Omega.{arith}
 use borrow.Author.Tests.{lt-ltb, le-ltb}
 use lib.ListN.{length}
 use lib.Dec.{ltb}
+use Rattle.std.specs.Cmp.Derive.{both_true}
+use Rattle.std.proofs.lemmas.Bool.{and_right, cond-true, cond-false}
 use Rattle.label.specs.Limits.{most_rows}
 use Rattle.label.specs.Layout.{all_numbers}
 use Rattle.label.specs.Answer.{accepted, room_of, overlaid}
 use Rattle.label.specs.Counting.{kinds_of, by_counting}
-use Rattle.label.proofs.Tests.{and_both, right_fails, cond_yes, cond_no}
 use Rattle.noted.specs.Noted.{note_width, rows_noted, rows_by, too_many}
 use Rattle.noted.proofs.Copying.{noted_long, noted_by_fours, zeros_of}
 use Rattle.noted.proofs.hand_over.Goals as goal
@@ -19,7 +20,7 @@ pub returns-then-table-rows : goal.returns-then-table-rows
 returns-then-table-rows c = let args = c.args in
     let n = length (rows_noted args.notes.now) in
     let short = lt-ltb (room_of args.table.now) n (omega (arith, noted_long args.notes.now, c.as_chunks.ensures.front_len, c.if-table-rows.true)) in
-    record { answer = sym (cond_yes _ _ _ short); rows = sym (cond_yes _ _ _ short) }
+    record { answer = sym (cond-true _ _ _ short); rows = sym (cond-true _ _ _ short) }
 
 pub returns-then-envelopes-lt2 : goal.returns-then-envelopes-lt2
 returns-then-envelopes-lt2 c = let args = c.args in
@@ -31,8 +32,8 @@ returns-then-envelopes-lt2 c = let args = c.args in
     let alone = le-ltb 1 args.envelopes (omega (arith, c.if-envelopes-lt2.true)) in
     let few : too_many args.envelopes rs ≡ false = ap (λ t. t && ltb most_rows (length rs)) alone in
     record {
-      answer = ap (accepted args.envelopes) long ∙ sym (cond_no _ _ _ enough ∙ cond_no _ _ _ few);
-      rows = c.copy_alone.ensures ∙ ap (λ rs. overlaid (all_numbers rs (zeros_of rs)) args.table.now) same ∙ ap (λ os. overlaid (all_numbers rs os) args.table.now) (sym (cond_no _ _ _ alone)) ∙ sym (cond_no _ _ _ enough ∙ cond_no _ _ _ few);
+      answer = ap (accepted args.envelopes) long ∙ sym (cond-false _ _ _ enough ∙ cond-false _ _ _ few);
+      rows = c.copy_alone.ensures ∙ ap (λ rs. overlaid (all_numbers rs (zeros_of rs)) args.table.now) same ∙ ap (λ os. overlaid (all_numbers rs os) args.table.now) (sym (cond-false _ _ _ alone)) ∙ sym (cond-false _ _ _ enough ∙ cond-false _ _ _ few);
     }
 
 pub returns-then-rows-gt-MOST_ROWS : goal.returns-then-rows-gt-MOST_ROWS
@@ -41,8 +42,8 @@ returns-then-rows-gt-MOST_ROWS c = let args = c.args in
     let long : length c.as_chunks.result.0.now ≡ length rs = c.as_chunks.ensures.front_len ∙ sym (noted_long args.notes.now) in
     let enough = le-ltb (room_of args.table.now) (length rs) (omega (arith, long, c.if-table-rows.false)) in
     let several = lt-ltb 1 args.envelopes (omega (arith, c.if-envelopes-lt2.false)) in
-    let many : too_many args.envelopes rs ≡ true = and_both several (lt-ltb most_rows (length rs) (omega (arith, long, c.if-rows-gt-MOST_ROWS.true))) in
-    record { answer = sym (cond_no _ _ _ enough ∙ cond_yes _ _ _ many); rows = sym (cond_no _ _ _ enough ∙ cond_yes _ _ _ many) }
+    let many : too_many args.envelopes rs ≡ true = both_true several (lt-ltb most_rows (length rs) (omega (arith, long, c.if-rows-gt-MOST_ROWS.true))) in
+    record { answer = sym (cond-false _ _ _ enough ∙ cond-true _ _ _ many); rows = sym (cond-false _ _ _ enough ∙ cond-true _ _ _ many) }
 
 pub returns : goal.returns
 returns c = let args = c.args in
@@ -52,8 +53,8 @@ returns c = let args = c.args in
     let long : length c.as_chunks.result.0.now ≡ length rs = c.as_chunks.ensures.front_len ∙ sym (noted_long ns) in
     let enough = le-ltb (room_of args.table.now) (length rs) (omega (arith, long, c.if-table-rows.false)) in
     let several = lt-ltb 1 args.envelopes (omega (arith, c.if-envelopes-lt2.false)) in
-    let few : too_many args.envelopes rs ≡ false = right_fails (ltb 1 args.envelopes) (le-ltb most_rows (length rs) (omega (arith, long, c.if-rows-gt-MOST_ROWS.false))) in
+    let few : too_many args.envelopes rs ≡ false = and_right (ltb 1 args.envelopes) _ (le-ltb most_rows (length rs) (omega (arith, long, c.if-rows-gt-MOST_ROWS.false))) in
     record {
-      answer = ap (accepted args.envelopes) long ∙ sym (cond_no _ _ _ enough ∙ cond_no _ _ _ few);
-      rows = c.copy_several.ensures ∙ ap (λ rs. overlaid (all_numbers rs (by_counting (kinds_of rs))) args.table.now) same ∙ ap (λ os. overlaid (all_numbers rs os) args.table.now) (sym (cond_yes _ _ _ several)) ∙ sym (cond_no _ _ _ enough ∙ cond_no _ _ _ few);
+      answer = ap (accepted args.envelopes) long ∙ sym (cond-false _ _ _ enough ∙ cond-false _ _ _ few);
+      rows = c.copy_several.ensures ∙ ap (λ rs. overlaid (all_numbers rs (by_counting (kinds_of rs))) args.table.now) same ∙ ap (λ os. overlaid (all_numbers rs os) args.table.now) (sym (cond-true _ _ _ several)) ∙ sym (cond-false _ _ _ enough ∙ cond-false _ _ _ few);
     }

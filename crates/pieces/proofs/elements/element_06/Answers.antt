@@ -1,7 +1,7 @@
 use Rattle.std.proofs.Common.{◌∙◌, ◌+◌, ◌-◌, refl, sym, ap, arith}
 use borrow.Author.Tests.{ltb-true}
+use Rattle.std.proofs.lemmas.List.{take_rest}
 use Rattle.label.specs.Elements.{after_digits, element06}
-use Rattle.leaves.proofs.Turns.{take_rest}
 use Rattle.pieces.proofs.ElementLaws.{digit_on, digits_stop, digits_done}
 use Rattle.pieces.proofs.elements.element_06.Goals as goal
 use Rattle.pieces.proofs.elements.element_06.Goals.{in_default-via-then-rest-lt1, in_default-via-in-len1-up+else-in_class}

@@ -5,8 +5,8 @@ use native.Mathlib.Omega.{arith}
 use Prim.Native.Nat.{◌-◌}
 use lib.ListN.{length, take}
 use lib.Seq.{length-take-le}
+use Rattle.std.proofs.lemmas.List.{take_rest}
 use Rattle.label.specs.Fields.{amount, unit, unit_length, weight}
-use Rattle.leaves.proofs.Turns.{take_rest}
 use Rattle.pieces.proofs.FieldLaws.{no_room_for_unit}
 use Rattle.pieces.proofs.fields.amount_and_unit.Goals as goal
 

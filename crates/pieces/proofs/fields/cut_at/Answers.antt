@@ -1,9 +1,9 @@
 -- `cut_at` is `cut`: at the first c.
 use Rattle.std.proofs.Common.{◌∙◌, ap, sym, arith, take, drop, ◌+◌}
 use native.Mathlib.Nat.{zero-add}
+use Rattle.std.proofs.lemmas.List.{take_rest}
 use Rattle.label.specs.Pieces.{found}
 use Rattle.leaves.specs.Seek.{seek}
-use Rattle.leaves.proofs.Turns.{take_rest}
 use Rattle.pieces.proofs.SeekLaws.{cut_found, cut_absent}
 use Rattle.pieces.proofs.fields.cut_at.Goals as goal
 
