@@ -21,7 +21,7 @@ use Rattle.walk.proofs.Shaped.{digit_plain}
 use Rattle.sweeps.proofs.Framing.{class_behind, digit_behind}
 
 -- neither of two tests holds
-pub neither : (a b : Bool) → (a || b) ≡ false → (a ≡ false) × (b ≡ false)
+neither : (a b : Bool) → (a || b) ≡ false → (a ≡ false) × (b ≡ false)
 neither true b h = absurd (true≢false h)
 neither false b h = (refl, h)
 
