@@ -180,15 +180,16 @@ module _ (f : ℕ) (m : Bytes) (at end next : ℕ) (is : next ≡ end + 1) (insi
       ∙ cond-true _ _ _ (both_true (lt-ltb n (length (drop next m)) (omega (arith, length-drop next m))) (eq-eqb _ RS (get_or-drop next m n 0 ∙ rs)))
 
 -- a header value is due behind the one that is swept
-pub value_due : (m : Bytes) (w : Wanted) (v : Value) (at rows next : ℕ) (notes : List ℕ) (stage : Stage)
+pub value_due : (m : Bytes) (w : Wanted) (v : Value) (at rows next now : ℕ) (notes : List ℕ) (stage : Stage)
     → ((end : ℕ) → next ≡ end + 1 → next < length m → following m v.format at end v.stage ≡ plain_row m stage v.format next)
-    → Framed m → w.most ≤ most_rows → v.format ≤ 99 → ValueSwept m w.from v at rows next notes → ValueDue m w v.format stage next (rows + 1) notes
-value_due m w v at rows next notes stage step framed few known swept = record {
+    → Framed m → w.most ≤ most_rows → v.format ≤ 99 → (now ≡ rows + 1) × ValueSwept m w.from v at rows next notes → ValueDue m w v.format stage next now notes
+value_due m w v at rows next now notes stage step framed few known swept = record {
   framed = framed;
-  inside = swept.inside;
+  inside = swept.1.inside;
   few = few;
   known = known;
-  noted = subst (λ (c : Cursor). Noted m w.from notes (rows + 1) c) (step swept.end swept.behind swept.inside) swept.noted;
+  noted = subst (λ (n : ℕ). Noted m w.from notes n (plain_row m stage v.format next)) (sym swept.0)
+      (subst (λ (c : Cursor). Noted m w.from notes (rows + 1) c) (step swept.1.end swept.1.behind swept.1.inside) swept.1.noted);
 }
 
 -- the row of a payload, and the step behind it

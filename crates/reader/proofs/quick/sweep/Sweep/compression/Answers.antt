@@ -1,12 +1,12 @@
 -- `compression` notes its row, and the count is due behind it.
 use Prim.Native.Nat.{ℕ, ◌+◌}
-use mathlib.Core.Path.{sym, subst}
+use mathlib.Core.Path.{subst}
 use native.Mathlib.Omega.{arith}
 use borrow.Author.Rules.{rules}
 use Rattle.std.proofs.lemmas.Result.{IfOk-weaker}
 use Rattle.envelope.specs.Formats.{count_found}
 use Rattle.walk.specs.declared.Stage.TheVariants.{CountValue}
-use Rattle.sweeps.specs.Counted.{ValueDue, PartSwept}
+use Rattle.sweeps.specs.Counted.{PartSwept}
 use Rattle.sweeps.proofs.CountedLaws.{behind_compression, value_due, compression_value, compression_swept}
 use Rattle.reader.proofs.quick.sweep.Sweep.compression.Goals as goal
 
@@ -16,12 +16,8 @@ payload-requires g c = let args = c.args in
     let s = args.self.now in
     let value = c.in_ok-count.ensures in
     let mid = c.value.new.notes in
-    let count = c.in_ok-count.count in (
-      search rules,
-      subst (λ (n : ℕ). ValueDue s.message.now s.wanted 9 CountValue count n mid.numbers) (sym value.0)
-          (value_due s.message.now s.wanted compression_value args.at args.notes.now.rows count mid.numbers CountValue (λ end. behind_compression 9 s.message.now args.at end count)
-          pre.framed pre.few (omega arith) value.1),
-    )
+    let count = c.in_ok-count.count in
+    (search rules, value_due s.message.now s.wanted compression_value args.at args.notes.now.rows count mid.rows mid.numbers CountValue (λ end. behind_compression 9 s.message.now args.at end count) pre.framed pre.few (omega arith) value)
 
 pub returns : goal.returns
 returns g c = let args = c.args in

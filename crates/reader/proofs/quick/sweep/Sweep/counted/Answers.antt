@@ -1,12 +1,12 @@
 -- `counted` notes the type's row behind GS, and the compression is due behind it: what is found so is what reading format 09 shows.
 use Prim.Native.Nat.{ℕ, ◌+◌}
-use mathlib.Core.Path.{sym, subst}
+use mathlib.Core.Path.{subst}
 use native.Mathlib.Omega.{arith}
 use borrow.Author.Rules.{rules}
 use Rattle.std.proofs.lemmas.Result.{IfOk-weaker}
 use Rattle.envelope.specs.Formats.{compression_found}
 use Rattle.walk.specs.declared.Stage.TheVariants.{CompressionValue}
-use Rattle.sweeps.specs.Counted.{ValueDue, PartSwept}
+use Rattle.sweeps.specs.Counted.{PartSwept}
 use Rattle.sweeps.proofs.CountedLaws.{behind_type, value_due, type_value, type_due, counted_swept}
 use Rattle.reader.proofs.quick.sweep.Sweep.counted.Goals as goal
 
@@ -22,12 +22,8 @@ compression-requires g c = let args = c.args in
     let s = args.self.now in
     let value = c.in_ok-next.ensures in
     let mid = c.value.new.notes in
-    let next = c.in_ok-next.next in (
-      search rules,
-      subst (λ (n : ℕ). ValueDue s.message.now s.wanted 9 CompressionValue next n mid.numbers) (sym value.0)
-          (value_due s.message.now s.wanted type_value (args.at + 1) args.notes.now.rows next mid.numbers CompressionValue (λ end. behind_type 9 s.message.now (args.at + 1) end next)
-          pre.framed pre.few (omega arith) value.1),
-    )
+    let next = c.in_ok-next.next in
+    (search rules, value_due s.message.now s.wanted type_value (args.at + 1) args.notes.now.rows next mid.rows mid.numbers CompressionValue (λ end. behind_type 9 s.message.now (args.at + 1) end next) pre.framed pre.few (omega arith) value)
 
 pub returns : goal.returns
 returns g c = let args = c.args in
