@@ -148,6 +148,10 @@ module _ (edition : Edition) (m : Bytes) (s : State) (sound : Sound m s) where
   pub turn_closed : (next rows : ℕ) → placed s.at (shown m (read_envelope edition (first_due s) (drop s.at m))) ≡ Ok (Closed next rows) → ClosedBy next rows
   turn_closed next rows found = closed_by (read_envelope edition (first_due s) (drop s.at m)) refl (step_so edition (first_due s) (drop s.at m)) next rows found
 
+  -- its rows are fewer than the bytes that are passed
+  pub closed_few : (next rows : ℕ) → placed s.at (shown m (read_envelope edition (first_due s) (drop s.at m))) ≡ Ok (Closed next rows) → s.counts.rows + rows < length m
+  closed_few next rows found = let by = turn_closed next rows found in omega (arith, by.further, by.inside, sound.few_rows)
+
   pub closed_so : (next rows : ℕ) → ClosedBy next rows → TurnSo edition m s (boundary_turn m next (with_envelope s.counts rows))
   closed_so next rows by =
       let a = by.further in
@@ -185,4 +189,4 @@ module _ (edition : Edition) (m : Bytes) (s : State) (sound : Sound m s) where
   pub turn_refused : (r : Refusal) → placed s.at (shown m (read_envelope edition (first_due s) (drop s.at m))) ≡ Err r → Err r ≡ result_of edition m s
   turn_refused r found = refused_by (read_envelope edition (first_due s) (drop s.at m)) refl r found
 
-pub ruleset turn_steps = (turn_closed, turn_whole, turn_refused)
+pub ruleset turn_steps = (turn_closed, closed_few, turn_whole, turn_refused)

@@ -3,15 +3,7 @@ use Rattle.std.specs.Prelude.{Ok}
 use mathlib.Core.Path.{sym, ap, ◌∙◌, subst}
 use Rattle.judge.specs.Turns.{TurnSo}
 use Rattle.judge.proofs.WalkLaws.{turn_closed, closed_so}
-use borrow.Author.Rules.{rules}
 use Rattle.judge.proofs.envelopes.turn.Goals as goal
-
-pub with_envelope-requires-in-Closed-clause-its_rows : goal.with_envelope-requires-in-Closed-clause-its_rows
-with_envelope-requires-in-Closed-clause-its_rows c = let by = turn_closed c.args.edition c.args.m.now c.args.s c.requires c.in-Closed.next c.in-Closed.n (sym c.in_ok-n.ensures ∙ ap Ok c.in-Closed.is) in
-    let few = c.requires.few_rows in
-    let further = by.further in
-    let inside = by.inside in
-    search rules
 
 pub returns-in-Closed : goal.returns-in-Closed
 returns-in-Closed c = subst (TurnSo c.args.edition c.args.m.now c.args.s) (sym (rw c.with_envelope-in-Closed.ensures at c.boundary.ensures))
