@@ -1,4 +1,4 @@
--- What the quick path asks of fields while it sweeps format 01: how long one is, how many a version has at most, and what makes the last one right.
+-- What the quick path asks of fields while it sweeps format 01: how long one is, and what makes the last one right.
 use Rattle.std.specs.Prelude.{ℕ, ◌≤◌, ◌≡◌, Bool, ◌&&◌, ◌||◌, leb, eqb}
 use Rattle.label.specs.Limits.{limit_of}
 use Rattle.label.specs.declared.Version.{Version}

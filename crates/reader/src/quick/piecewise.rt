@@ -1,5 +1,6 @@
 // The quick path over a body of pieces, elements or fields, up to an RS.
 ghost use Rattle.std.specs.Prelude.{◌<◌, length, IfSome, IfOk};
+ghost use Rattle.label.specs.Fields.{most_fields};
 ghost use Rattle.pieces.specs.PieceTests.{piece_test};
 ghost use Rattle.walk.specs.Cursors.{plain_row};
 ghost use Rattle.sweeps.specs.Quick.{PassesTo, IfSo, BodySwept, StandsAt};
@@ -7,15 +8,20 @@ ghost use Rattle.sweeps.specs.Transport.{PiecesOf, LastOf, LastRight};
 
 use crate::quick::notes::Notes;
 use crate::quick::sweep::Sweep;
-use label::LEAST_FIELDS;
+use label::{LEAST_FIELDS, Version};
 use leaves::{GS, RS};
 use pieces::Kind;
 use sweeps::Unswept;
 use walk::{Stage, standing_at};
 
 // Whether there are enough fields and not too many, and past the fifth the last is not empty.
-fn fields_right(most: usize, count: usize, size: usize) -> bool
-    ensures { IfSo result (LastRight most count size) }
+fn fields_right(version: Version, count: usize, size: usize) -> bool
+    ensures { IfSo result (LastRight (most_fields version) count size) }
+{
+    (LEAST_FIELDS <= count)
+        & (count <= limits::most_fields(version))
+        & ((count == LEAST_FIELDS) | (size != 0))
+}
 {
     (LEAST_FIELDS <= count) & (count <= most) & ((count == LEAST_FIELDS) | (size != 0))
 }
@@ -25,7 +31,7 @@ fn last_right(k: Kind, count: usize, size: usize) -> bool
     ensures { IfSo result (LastOf k count size) }
 {
     match k {
-        Kind::Fields(version) => fields_right(limits::most_fields(version), count, size),
+        Kind::Fields(version) => fields_right(version, count, size),
         _ => true,
     }
 }
