@@ -22,9 +22,6 @@ fn fields_right(version: Version, count: usize, size: usize) -> bool
         & (count <= limits::most_fields(version))
         & ((count == LEAST_FIELDS) | (size != 0))
 }
-{
-    (LEAST_FIELDS <= count) & (count <= most) & ((count == LEAST_FIELDS) | (size != 0))
-}
 
 // Whether so many pieces may end with one of a size. Of elements nothing is asked.
 fn last_right(k: Kind, count: usize, size: usize) -> bool
