@@ -46,7 +46,7 @@ fn piece_fault(k: Kind, i: usize, p: &[u8]) -> Option<Reason>
     Some(reason_of(k, i, p.len()))
 }
 
-// The first faulty piece and where it starts: one sweep, a piece a turn, that leaves there. By `split` the lengths would have to be added up.
+// The first faulty piece and where it starts: one sweep, a piece a turn, that leaves there. By `split` lengths would have to be added up.
 fn first_fault(k: Kind, s: &[u8]) -> Option<Refusal>
     ensures { result ≡ first_fault (piece_fault k) 0 0 (pieces GS s.now) }
 {

@@ -1,4 +1,4 @@
-// The rows that the writer is given: whether they stand, whether their ordinals are true, one of them, and whether a cursor's row is like one.
+// The rows that the writer is given: whether they stand and their ordinals are true, one of them, and whether a cursor's row is like one.
 #![tactic(auto)]
 
 ghost use Rattle.std.specs.Prelude.{◌≡◌};

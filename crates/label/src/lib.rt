@@ -12,7 +12,7 @@ pub const ROW: usize = 5;
 
 pub const TABLE: usize = ROW * MOST_ROWS;
 
-// Which edition of the standard a message is read or written in: the caller picks it (02, No. 3). `formats` of specs/Formats has each one's.
+// Which edition of the standard a message is read or written in: the caller picks it (02, No. 3). Each has its `formats` (specs/Formats).
 #[derive(Clone, Copy)]
 pub enum Edition {
     Edition2005,

@@ -1,6 +1,6 @@
-// The least and the greatest length of a transport field. The definition is `label`'s, with a row for each version; here stands version 02's
-// row alone, and version 96's pairs are worked out (02, No. 5). It is a crate of its own, so that no edit of a definition is tried with its
-// proof.
+// The least and the greatest length of a transport field. The definition is `label`'s, with a row for each version; here stands version
+// 02's row alone, and version 96's pairs are worked out (02, No. 5). It is a crate of its own, so that no edit of a definition is tried
+// with its proof.
 #![tactic(auto)]
 
 ghost use Rattle.std.specs.Prelude.{◌≡◌};
@@ -37,8 +37,8 @@ const WEIGHT: usize = 9;
 
 const NAME: usize = 14;
 
-// A field's pair in version 96, from its pair in version 02: a postal code has at least three bytes, a weight at least one, as it has no unit,
-// and there is no name.
+// A field's pair in version 96, from its pair in version 02: a postal code has at least three bytes, a weight at least one, as it has no
+// unit, and there is no name.
 fn for_96(field: usize, limit: Limit) -> Limit
     ensures { result ≡ for96 field limit }
 {

@@ -19,7 +19,7 @@ pub const NOTES: usize = NOTE * MOST_ROWS;
 
 // Copies a row's numbers from its note into a table, from an index on, its envelope's ordinal behind them.
 // By index: of a table whose `as_chunks_mut` were written a proof knows the length alone, and `hand_over` promises each number. To copy an
-// array of the five takes 11 instructions a row more, case b of the benchmark then 84,712 of its 85,107 (docs/PERFORMANCE.md).
+// array of the five is no plainer and takes 11 instructions a row more (docs/PERFORMANCE.md).
 fn copy_row(note: &[u16; NOTE], table: &mut [u32], at: usize, ordinal: u32)
     requires { at + row_width ≤ length table.old }
     ensures { table.new ≡ take at table.old ++ (numbers (row_from note.now 0) ordinal ++ drop (at + row_width) table.old) }
@@ -69,9 +69,9 @@ fn copy_several(notes: &[[u16; NOTE]], table: &mut [u32])
     }
 }
 
-// Hands the rows noted, of a message with so many envelopes, over to a table of any length, whose room is its length divided by the numbers of
-// a row: accepted, and the table's first numbers are the rows', each with its envelope's ordinal; or refused for lack of room, or for too many
-// rows to be counted, and the table stays as it was. Most labels have one envelope, whose rows need no counting.
+// Hands the rows noted, of a message with so many envelopes, over to a table of any length, whose room is its length divided by the numbers
+// of a row: accepted, and the table's first numbers are the rows', each with its envelope's ordinal; or refused for lack of room, or for
+// too many rows to be counted, and the table stays as it was. Most labels have one envelope, whose rows need no counting.
 pub fn hand_over(envelopes: usize, notes: &[u16], table: &mut [u32]) -> Reading
     ensures answer { answer_of result ≡ answer_from envelopes notes.now (room_of table.old) }
     ensures rows { table.new ≡ table_from envelopes notes.now table.old }

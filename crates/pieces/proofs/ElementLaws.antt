@@ -1,5 +1,5 @@
 -- What an element of 05, 06 or 12 is, by the tests that the code makes of its length and of one byte after another.
-use Prim.Native.Nat.{ℕ, suc, ◌≤◌, ◌<◌}
+use Prim.Native.Nat.{ℕ, zero, suc, ◌+◌, ◌≤◌, ◌<◌}
 use mathlib.Core.Path.{◌≡◌, refl, sym, ap, ◌∙◌}
 use mathlib.Core.Bool.{Bool, true, false, ◌&&◌, cond, and-true}
 use mathlib.Core.List.{[], ◌∷◌}
@@ -7,6 +7,7 @@ use native.Mathlib.Omega.{arith}
 use borrow.Author.Tests.{le-leb, lt-leb, leb-true, eq-eqb, ne_eqb}
 use lib.ListN.{length, get_or, take, drop}
 use lib.Dec.{leb, eqb}
+use Rattle.std.specs.List.{prefix_len}
 use Rattle.label.specs.Bytes.{Bytes, ascii, digit, capital, capital_or_digit, between, every, same_bytes}
 use Rattle.label.specs.Elements.{element05, capital_and_more, after_digits, element12}
 
@@ -46,21 +47,19 @@ no_capital (b ∷ (x ∷ s)) none = by (leb 0x41 b) (leb b 0x5A) refl refl
     by true false low high = refl
     by true true low high = absurd (none (omega arith) (leb-true 0x41 b low) (leb-true b 0x5A high))
 
--- Turns of the loop over the digits of a 06 element, of which n are still to come at most
-
-pub digit_on : (m n : ℕ) (s : Bytes) → n ≡ suc m → 1 ≤ length s → digit (get_or s 0 0) ≡ true → after_digits m (drop 1 s) ≡ after_digits n s
-unfolding after_digits
-digit_on m n [] more there is = absurd (omega arith)
-digit_on m n (b ∷ s) more there is = sym (ap (λ k. after_digits k (b ∷ s)) more ∙ ap (λ t. cond t (after_digits m s) (capital_and_more (b ∷ s))) is)
-
-pub digits_stop : (m n : ℕ) (s : Bytes) → n ≡ suc m → (1 ≤ length s → digit (get_or s 0 0) ≡ false) → capital_and_more s ≡ after_digits n s
+-- behind the digits in front, n at most, stands the capital
+pub behind_digits : (n : ℕ) (s : Bytes) → capital_and_more (drop (prefix_len digit (take n s)) s) ≡ after_digits n s
 unfolding after_digits capital_and_more
-digits_stop m n [] more none = sym (ap (λ k. after_digits k []) more)
-digits_stop m n (b ∷ s) more none = sym (ap (λ k. after_digits k (b ∷ s)) more ∙ ap (λ t. cond t (after_digits m s) (capital_and_more (b ∷ s))) (none (omega arith)))
-
-pub digits_done : (n : ℕ) (s : Bytes) → n ≡ 0 → capital_and_more s ≡ after_digits n s
-unfolding after_digits
-digits_done n s none = sym (ap (λ k. after_digits k s) none)
+behind_digits zero s = refl
+behind_digits (suc n) [] = refl
+behind_digits (suc n) (b ∷ s) = by (digit b) (behind_digits n s)
+  where
+    by : (t : Bool) → capital_and_more (drop (prefix_len digit (take n s)) s) ≡ after_digits n s
+        → capital_and_more (drop (cond t (1 + prefix_len digit (take n s)) 0) (b ∷ s)) ≡ cond t (after_digits n s) (capital_and_more (b ∷ s))
+    by true rest =
+        let further : 1 + prefix_len digit (take n s) ≡ suc (prefix_len digit (take n s)) = omega arith in
+        ap (λ k. capital_and_more (drop k (b ∷ s))) further ∙ rest
+    by false rest = refl
 
 -- 12
 

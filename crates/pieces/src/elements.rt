@@ -25,18 +25,15 @@ fn capital_and_more(s: &[u8]) -> bool
 }
 
 // 06: zero to three digits, one capital, then at least one byte.
-// `take_while` and `count` over the first bytes take case e of the benchmark over its bar (docs/PERFORMANCE.md).
 pub(crate) fn element_06(s: &[u8]) -> bool
     ensures { result ≡ element06 s.now }
 {
-    let mut rest = s;
-    for _i in 0..MOST_DIGITS {
-        match rest {
-            [b, behind @ ..] if leaves::in_class(Class::Digit, *b) => rest = behind,
-            _ => return capital_and_more(rest),
-        }
-    }
-    capital_and_more(rest)
+    let digits = s
+        .iter()
+        .take(MOST_DIGITS)
+        .take_while(|b| leaves::in_class(Class::Digit, **b))
+        .count();
+    capital_and_more(&s[digits..])
 }
 
 // 12: three capitals or digits, a space, then at least one byte.

@@ -1,6 +1,6 @@
-// What the quick path keeps while it sweeps a message: which rows are wanted, how far it is, and what it says of the message. The definitions are
-// in specs/Quick and its neighbours, the laws in proofs; the code that sweeps is `reader`'s. They stand apart so that no edit of that code is
-// tried with their proofs.
+// What the quick path keeps while it sweeps a message: which rows are wanted, how far it is, and what it says of the message. The
+// definitions are in specs/Quick and its neighbours, the laws in proofs; the code that sweeps is `reader`'s. They stand apart so that no
+// edit of that code is tried with their proofs.
 #![tactic(auto)]
 
 use leaves::Class;
@@ -23,7 +23,7 @@ pub struct Value {
     pub most: usize,
 }
 
-// Why a message is left to the exact reader, which says what it is: it may have more rows than were asked for, or the sweep doesn't know at once.
+// Why a message is left to the exact reader, which says what it is: it may have more rows than were asked for, or isn't known at once.
 #[derive(Clone, Copy)]
 pub enum Unswept {
     Full,

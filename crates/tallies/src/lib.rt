@@ -1,5 +1,5 @@
-// What is counted in a stretch of bytes: how often a byte is there, how many agree with a text; and whether a message begins with its header.
-// Every function takes every input.
+// What is counted in a stretch of bytes: how often a byte is there, how many agree with a text; and whether a message begins with its
+// header. Every function takes every input.
 #![tactic(auto)]
 
 mod header;

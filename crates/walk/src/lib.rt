@@ -1,6 +1,6 @@
 // What the walk over the rows of a good message stands at: a cursor by value holds a row's format, start and length, and its stage, which
-// tells the row's kind and where the next row is. Where it goes is specs/Cursors, and that on a message that is read it goes over exactly its
-// rows is `walked` of proofs/Promises; `steps` goes.
+// tells the row's kind and where the next row is. Where it goes is specs/Cursors, and that on a message that is read it goes over exactly
+// its rows is `walked` of proofs/Promises; `steps` goes.
 #![tactic(auto)]
 
 ghost use Rattle.std.specs.Prelude.{◌≡◌, drop};

@@ -15,8 +15,8 @@ use sweeps::{Unswept, Value};
 use walk::{Stage, count_from, standing_at};
 
 impl Sweep<'_> {
-    // Goes over the row of a header value and answers the offset behind its GS. The compiler writes it and `payload` out where they are called, as
-    // a call answers through memory: a reading of format 09 takes a fifth fewer instructions so (docs/PERFORMANCE.md, case d).
+    // Goes over the row of a header value and answers the offset behind its GS. The compiler writes it and `payload` out where they are
+    // called, as a call answers through memory: a reading of format 09 takes a fifth fewer instructions so (docs/PERFORMANCE.md, case d).
     #[inline(always)]
     fn value<const N: usize>(
         &self,

@@ -15,8 +15,8 @@ use sweeps::{Unswept, Wanted};
 use walk::{Stage, standing_at};
 
 impl Sweep<'_> {
-    // The number of an indicator of a format that is swept, 00 to 19, if one stands there. Behind a digit there is more, as the message ends with
-    // EOT.
+    // The number of an indicator of a format that is swept, 00 to 19, if one stands there. Behind a digit there is more, as the message
+    // ends with EOT.
     fn format_at(&self, at: usize) -> Option<u32>
         requires { at + 1 < length self.now.message.now }
         ensures { IfSome result (Indicates self.now.message.now at) }

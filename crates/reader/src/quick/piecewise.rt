@@ -46,8 +46,8 @@ impl Sweep<'_> {
         }
     }
 
-    // Pieces from an offset on, up to an RS: a turn takes a piece and the byte behind it, which is looked at before the piece is noted, as the
-    // sweep still has it in hand.
+    // Pieces from an offset on, up to an RS: a turn takes a piece and the byte behind it, which is looked at before the piece is noted, as
+    // the sweep still has it in hand.
     pub(crate) fn pieces<const N: usize>(
         &self,
         k: Kind,

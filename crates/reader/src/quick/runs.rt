@@ -10,8 +10,9 @@ use leaves::Class;
 use pieces::Kind;
 
 impl Sweep<'_> {
-    // Where a run of bytes of a class ends. The message's EOT is of no such class, so that no end is asked for: a `for`, `position` or `take_while`
-    // asks at each byte and so takes 89,000 instructions or more where this takes 73,400 (docs/PERFORMANCE.md, case b; its bar is 85,100).
+    // Where a run of bytes of a class ends. The message's EOT is of no such class, so that no end is asked for: a `for`, `position` or
+    // `take_while` asks at each byte, and cases b and g of the benchmark take 6,300 instructions more each, or 10,400. (g) is 0.695 of (b)
+    // as it is, and its goal is 0.7 (docs/PERFORMANCE.md).
     pub(crate) fn run_end(&self, k: Class, at: usize) -> usize
         requires { (class_of k endByte ≡ false) × (at < length self.now.message.now) }
         ensures { RunsTo (class_of k) self.now.message.now at result }

@@ -1,33 +1,20 @@
-use Rattle.std.proofs.Common.{◌∙◌, ◌+◌, ◌-◌, refl, sym, ap, arith}
-use borrow.Author.Tests.{ltb-true}
+-- `element_06` counts the digits in front.
+use Rattle.std.proofs.Common.{◌∙◌, ap, take, drop, rules}
+use Rattle.std.proofs.lemmas.Iterator.{YieldsList-from_slice, YieldsList-from_take}
+use Rattle.std.proofs.lemmas.Iterator.Consumers.{YieldsList-at, count_from_yields_List}
+use Rattle.std.proofs.lemmas.Iterator.Search.{YieldsList-from_take_while}
 use Rattle.std.proofs.lemmas.List.{take_rest}
-use Rattle.label.specs.Elements.{after_digits, element06}
-use Rattle.pieces.proofs.ElementLaws.{digit_on, digits_stop, digits_done}
+use Rattle.std.proofs.lemmas.List.Folds.{length-prefix_len}
+use borrow.Author.Tests.{tests}
+use Rattle.label.specs.Bytes.{digit}
+use Rattle.label.specs.Elements.{capital_and_more, element06}
+use Rattle.pieces.proofs.ElementLaws.{behind_digits}
 use Rattle.pieces.proofs.elements.element_06.Goals as goal
-use Rattle.pieces.proofs.elements.element_06.Goals.{in_default-via-then-rest-lt1, in_default-via-in-len1-up+else-in_class}
-
-pub loop-i-init : goal.loop-i-init
-unfolding element06
-loop-i-init c = refl
-
-pub returns-in_default : goal.returns-in_default
-returns-in_default c =
-    let rest = c.loop-i.rest.now in
-    let i = c.loop-i._i in
-    c.capital_and_more.ensures
-    ∙ digits_stop (3 - (i + 1)) (3 - i) rest (omega arith) (elim c.in_default.branch [
-      | in_default-via-then-rest-lt1 w ↦ λ there. absurd (omega (arith, ltb-true))
-      | in_default-via-in-len1-up+else-in_class w ↦ λ there. sym w.in_class.ensures ∙ w.if-in_class.false
-    ])
-    ∙ c.loop-i.invariant
-
-pub loop-i-preserved : goal.loop-i-preserved
-loop-i-preserved c =
-    let rest = c.loop-i.rest.now in
-    let i = c.loop-i._i in
-    ap (after_digits (3 - (i + 1))) (take_rest rest 1)
-    ∙ digit_on (3 - (i + 1)) (3 - i) rest (omega arith) c.in-len1-up.len_at_least (sym c.in_class.ensures ∙ c.if-in_class.true)
-    ∙ c.loop-i.invariant
 
 pub returns : goal.returns
-returns c = c.capital_and_more-2.ensures ∙ digits_done (3 - c.loop-i._i) c.loop-i.rest.now (omega arith) ∙ c.loop-i.invariant
+unfolding element06
+returns c = let s = c.args.s.now in
+    let counted = count_from_yields_List c.take_while.result c.count-digits.result c.count-digits.ensures.ran
+    (YieldsList-from_take_while _ digit (YieldsList-at c.take_while.ensures.source (YieldsList-from_take 3 (YieldsList-at c.take.ensures.source (YieldsList-from_slice s c.iter.ensures.rest)) c.take.ensures.count))
+    c.take_while.ensures.closure c.take_while.ensures.done (λ x b q k. search (rules, tests))) in
+    c.capital_and_more.ensures ∙ ap capital_and_more (take_rest s c.count-digits.result ∙ ap (λ n. drop n s) (counted ∙ length-prefix_len digit (take 3 s))) ∙ behind_digits 3 s
