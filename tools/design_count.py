@@ -52,6 +52,7 @@ def counted(tree):
     yield "1 numbers of refusals and kinds, arm by arm", found(tree, r"\b(Reason|Stage)::\w+ => \d+,$")
     yield "2 twins", found(tree, rf"\bfn ({TWINS})\b")
     yield "3 while and loop", found(tree, r"^\s*(while|loop)\b")
+    yield "3 for over a range", found(tree, r"^\s*for \w+ in .*\.\.")
     yield "4 casts", found(tree, r"\bas (u8|u16|u32|u64|usize)\b")
     yield "4 conversions and printing by hand", found(tree, rf"\bfn ({HAND})\(")
     yield "5 facts in three contracts or more", often
