@@ -28,7 +28,7 @@ use Rattle.envelope.specs.declared.Found.TheVariants.{Closed, Whole}
 use Rattle.envelope.specs.Shown.{row_count, shown}
 use Rattle.judge.specs.declared.State.{State}
 use Rattle.judge.specs.Shown.{placed, total_rows, tallied}
-use Rattle.judge.specs.Turns.{first_due, done, go, result_of, with_envelope, result_after, Sound, Further, TurnSo, boundary_turn}
+use Rattle.judge.specs.Turns.{first_due, done, go, result_from, result_of, with_envelope, result_after, Sound, Further, TurnSo, boundary_turn}
 use Rattle.judge.proofs.RowBounds.{few_rows_lem}
 
 -- At a boundary
@@ -111,18 +111,18 @@ left_at m at e left inside is =
     let long : length m - length left ≡ at + k = omega (arith, ap length is, length-append (bytes_of (parts e)) (RS ∷ left), length-drop at m) in
     ap (λ n. drop n m) long ∙ sym (drop-drop k at m) ∙ ap (drop k) is ∙ drop-append-add (bytes_of (parts e)) (RS ∷ left) 1
 
-module _ (edition : Edition) (m : Bytes) (s : State) (sound : Sound m s) where
-  result_by : (step : Step) → read_envelope edition (first_due s) (drop s.at m) ≡ step
-      → result_of edition m s ≡ tallied s.counts.envelopes s.counts.rows (follow m (unbounded_walk edition m false) (drop s.at m) step)
-  result_by step is = ap (tallied s.counts.envelopes s.counts.rows) (one_step_then_walk edition m (first_due s) (drop s.at m) ∙ ap (follow m (unbounded_walk edition m false) (drop s.at m)) is)
+module _ (edition : Edition) (m : Bytes) (first : Bool) (s : State) (sound : Sound m s) where
+  result_by : (step : Step) → read_envelope edition first (drop s.at m) ≡ step
+      → result_from edition m first s ≡ tallied s.counts.envelopes s.counts.rows (follow m (unbounded_walk edition m false) (drop s.at m) step)
+  result_by step is = ap (tallied s.counts.envelopes s.counts.rows) (one_step_then_walk edition m first (drop s.at m) ∙ ap (follow m (unbounded_walk edition m false) (drop s.at m)) is)
 
   -- where an envelope is closed, how far it reaches and how many rows it has
   pub record ClosedBy (next rows : ℕ) : Type 0 where
     pub inside : next ≤ length m
     pub further : s.at + rows < next
-    pub same : result_after edition m (boundary_turn m next (with_envelope s.counts rows)) ≡ result_of edition m s
+    pub same : result_after edition m (boundary_turn m next (with_envelope s.counts rows)) ≡ result_from edition m first s
 
-  closed_by : (step : Step) → read_envelope edition (first_due s) (drop s.at m) ≡ step → StepSo edition (first_due s) (drop s.at m) step → (next rows : ℕ) → placed s.at (shown m step) ≡ Ok (Closed next rows) → ClosedBy next rows
+  closed_by : (step : Step) → read_envelope edition first (drop s.at m) ≡ step → StepSo edition first (drop s.at m) step → (next rows : ℕ) → placed s.at (shown m step) ≡ Ok (Closed next rows) → ClosedBy next rows
   closed_by (closed e left) is so next rows found =
       let ends : length m - length left ≡ next = cc in
       let its : row_count e ≡ rows = cc in
@@ -145,19 +145,26 @@ module _ (edition : Edition) (m : Bytes) (s : State) (sound : Sound m s) where
   closed_by (refuse r) is so next rows found = let z : ◌≡◌ {A = ℕ} 0 1 = cc in absurd (omega arith)
   closed_by (refuse_at r from) is so next rows found = let z : ◌≡◌ {A = ℕ} 0 1 = cc in absurd (omega arith)
 
-  pub turn_closed : (next rows : ℕ) → placed s.at (shown m (read_envelope edition (first_due s) (drop s.at m))) ≡ Ok (Closed next rows) → ClosedBy next rows
-  turn_closed next rows found = closed_by (read_envelope edition (first_due s) (drop s.at m)) refl (step_so edition (first_due s) (drop s.at m)) next rows found
+  pub closed_first : (next rows : ℕ) → placed s.at (shown m (read_envelope edition first (drop s.at m))) ≡ Ok (Closed next rows) → ClosedBy next rows
+  closed_first next rows found = closed_by (read_envelope edition first (drop s.at m)) refl (step_so edition first (drop s.at m)) next rows found
+
+  pub closed_further : (next rows : ℕ) → ClosedBy next rows → Further m s.at (boundary_turn m next (with_envelope s.counts rows))
+  closed_further next rows by =
+      let a = by.further in
+      let b = sound.few_envelopes in
+      let c = sound.few_rows in
+      boundary_further m next (with_envelope s.counts rows) by.inside (omega arith) (omega arith) s.at (omega arith)
+
+module _ (edition : Edition) (m : Bytes) (s : State) (sound : Sound m s) where
+  pub turn_closed : (next rows : ℕ) → placed s.at (shown m (read_envelope edition (first_due s) (drop s.at m))) ≡ Ok (Closed next rows) → ClosedBy edition m (first_due s) s sound next rows
+  turn_closed next rows found = closed_first edition m (first_due s) s sound next rows found
 
   -- its rows are fewer than the bytes that are passed
   pub closed_few : (next rows : ℕ) → placed s.at (shown m (read_envelope edition (first_due s) (drop s.at m))) ≡ Ok (Closed next rows) → s.counts.rows + rows < length m
   closed_few next rows found = let by = turn_closed next rows found in omega (arith, by.further, by.inside, sound.few_rows)
 
-  pub closed_so : (next rows : ℕ) → ClosedBy next rows → TurnSo edition m s (boundary_turn m next (with_envelope s.counts rows))
-  closed_so next rows by =
-      let a = by.further in
-      let b = sound.few_envelopes in
-      let c = sound.few_rows in
-      record { same = by.same; further = boundary_further m next (with_envelope s.counts rows) by.inside (omega arith) (omega arith) s.at (omega arith) }
+  pub closed_so : (next rows : ℕ) → ClosedBy edition m (first_due s) s sound next rows → TurnSo edition m s (boundary_turn m next (with_envelope s.counts rows))
+  closed_so next rows by = record { same = by.same; further = closed_further edition m (first_due s) s sound next rows by }
 
   whole_by : (step : Step) → read_envelope edition (first_due s) (drop s.at m) ≡ step → StepSo edition (first_due s) (drop s.at m) step → (rows : ℕ) → placed s.at (shown m step) ≡ Ok (Whole rows)
       → (rows ≤ length m) × (Ok (with_envelope s.counts rows) ≡ result_of edition m s)
@@ -168,7 +175,7 @@ module _ (edition : Edition) (m : Bytes) (s : State) (sound : Sound m s) where
       let bytes_long = ap length so.bytes in
       let long = length-drop s.at m in
       let sum : s.counts.rows + rows ≡ s.counts.rows + (row_count e + 0) = omega arith in
-      (omega arith, ap (λ n. Ok (record { envelopes = s.counts.envelopes + 1; rows = n })) sum ∙ sym (result_by (whole e) is))
+      (omega arith, ap (λ n. Ok (record { envelopes = s.counts.envelopes + 1; rows = n })) sum ∙ sym (result_by edition m (first_due s) s sound (whole e) is))
   whole_by (refuse r) is so rows found = let z : ◌≡◌ {A = ℕ} 0 1 = cc in absurd (omega arith)
   whole_by (refuse_at r from) is so rows found = let z : ◌≡◌ {A = ℕ} 0 1 = cc in absurd (omega arith)
 
@@ -183,8 +190,8 @@ module _ (edition : Edition) (m : Bytes) (s : State) (sound : Sound m s) where
       let long = length-drop s.at m in
       let within = sound.inside in
       let place : s.at ≡ place_of m (drop s.at m) = omega arith in
-      ap Err (ap (refusal_in r) (sym found)) ∙ (λ i. Err (record { reason = why; place = place i })) ∙ sym (result_by (refuse why) is)
-  refused_by (refuse_at why from) is r found = ap Err (ap (refusal_in r) (sym found)) ∙ sym (result_by (refuse_at why from) is)
+      ap Err (ap (refusal_in r) (sym found)) ∙ (λ i. Err (record { reason = why; place = place i })) ∙ sym (result_by edition m (first_due s) s sound (refuse why) is)
+  refused_by (refuse_at why from) is r found = ap Err (ap (refusal_in r) (sym found)) ∙ sym (result_by edition m (first_due s) s sound (refuse_at why from) is)
 
   pub turn_refused : (r : Refusal) → placed s.at (shown m (read_envelope edition (first_due s) (drop s.at m))) ≡ Err r → Err r ≡ result_of edition m s
   turn_refused r found = refused_by (read_envelope edition (first_due s) (drop s.at m)) refl r found

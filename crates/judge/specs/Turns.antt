@@ -16,9 +16,12 @@ use Rattle.label.specs.Answer.{Reading}
 abbrev pub first_due : State → Bool
 first_due s = eqb s.counts.envelopes 0
 
--- what a message comes to from a state on
+-- what a message comes to from a state on, given whether its first envelope is due there
+abbrev pub result_from : Edition → Bytes → Bool → State → Reading
+result_from edition m first s = tallied s.counts.envelopes s.counts.rows (unbounded_walk edition m first (drop s.at m))
+
 abbrev pub result_of : Edition → Bytes → State → Reading
-result_of edition m s = tallied s.counts.envelopes s.counts.rows (unbounded_walk edition m (first_due s) (drop s.at m))
+result_of edition m s = result_from edition m (first_due s) s
 
 -- counts with another envelope, given its rows
 abbrev pub with_envelope : Counts → ℕ → Counts

@@ -120,13 +120,7 @@ module _ (m : Bytes) (at end : ℕ) where
   first_byte : (n : ℕ) → get_or (drop at m) n 0 ≡ get_or m (at + n) 0
   first_byte n = get_or-drop at m n 0
 
-  module _ (c : ℕ) (letter : (ltb (get_or m c 0) 0x41 || ltb 0x5A (get_or m c 0)) ≡ false) where
-    is_capital : capital (get_or m c 0) ≡ true
-    unfolding capital between
-    is_capital =
-        let k = or_parts (ltb (get_or m c 0) 0x41) (ltb 0x5A (get_or m c 0)) letter in
-        both_true (le-leb 0x41 (get_or m c 0) (ltb-false (get_or m c 0) 0x41 k.0)) (le-leb (get_or m c 0) 0x5A (ltb-false 0x5A (get_or m c 0) k.1))
-
+  module _ (c : ℕ) (is_capital : capital (get_or m c 0) ≡ true) where
     pub behind_capital : Framed m → c < length m → c + 1 < length m
     unfolding plain between
     behind_capital framed inside = class_behind m framed c inside plain refl (capital_plain (get_or m c 0) is_capital)

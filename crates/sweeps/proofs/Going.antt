@@ -2,7 +2,7 @@
 use Rattle.std.specs.Prelude.{Ok}
 use Prim.Native.Nat.{ℕ, ◌+◌, ◌-◌, ◌≤◌, ◌<◌}
 use mathlib.Core.Path.{◌≡◌, refl, sym, ap, ◌∙◌, subst}
-use mathlib.Core.Bool.{true}
+use mathlib.Core.Bool.{Bool, true, false}
 use mathlib.Core.List.{List}
 use native.Mathlib.Omega.{arith}
 use borrow.Author.Tests.{ne_eqb, eq-eqb, le-ltb}
@@ -16,8 +16,8 @@ use Rattle.label.specs.Limits.{most_rows}
 use Rattle.label.specs.ReadMessage.{reading, unbounded_walk}
 use Rattle.judge.specs.declared.State.{State}
 use Rattle.judge.specs.Shown.{placed, judged_as, tallied, limited}
-use Rattle.judge.specs.Turns.{first_due, go, result_of, Sound, TurnSo, boundary_turn}
-use Rattle.judge.proofs.WalkLaws.{boundary_next, boundary_last, turn_closed, closed_so}
+use Rattle.judge.specs.Turns.{go, result_from, result_after, Sound, Further, boundary_turn}
+use Rattle.judge.proofs.WalkLaws.{boundary_next, boundary_last, ClosedBy, closed_first, closed_further}
 use Rattle.judge.proofs.JudgeLaws.{judge_walk}
 use Rattle.sweeps.specs.declared.Unswept.{Unswept}
 use Rattle.walk.specs.Cursors.{indicator_at, first_cursor}
@@ -33,17 +33,19 @@ state_of at envelopes rows = record { at = at; counts = counts_of envelopes rows
 -- where the sweep stands: from here on the message comes to what it comes to from its header on, with the envelopes and rows gone over
 pub record Going (edition : Edition) (m : Bytes) (from : ℕ) (notes : List ℕ) (at envelopes rows : ℕ) : Type 0 where
   pub headed : Headed m
-  pub only : FirstAt at (first_due (state_of at envelopes rows))
+  pub first : Bool
+  pub only : FirstAt at first
   pub behind : 4 ≤ at
   pub inside : at + 1 < length m
   pub sound : Sound m (state_of at envelopes rows)
-  pub same : result_of edition m (state_of at envelopes rows) ≡ tallied 0 0 (unbounded_walk edition m true (drop 4 m))
+  pub same : result_from edition m first (state_of at envelopes rows) ≡ tallied 0 0 (unbounded_walk edition m true (drop 4 m))
   pub noted : Noted m from notes rows (indicator_at m at)
 
 pub going_first : (edition : Edition) (m : Bytes) (from : ℕ) (notes : List ℕ) → Headed m → Going edition m from notes 4 0 0
 unfolding first_cursor
 going_first edition m from notes headed = record {
   headed = headed;
+  first = true;
   only = λ is. refl;
   behind = omega arith;
   inside = headed.long;
@@ -59,37 +61,46 @@ module _ (edition : Edition) (m : Bytes) (from : ℕ) (notes : List ℕ) (at env
   sum : rows + (p.rows - rows) ≡ p.rows
   sum = omega (arith, swept.more)
 
-  turned : TurnSo edition m here (boundary_turn m p.next (counts_of (envelopes + 1) p.rows))
-  turned = subst (λ (n : ℕ). TurnSo edition m here (boundary_turn m p.next (counts_of (envelopes + 1) n))) sum
-      (closed_so edition m here going.sound p.next (p.rows - rows) (turn_closed edition m here going.sound p.next (p.rows - rows) (ap (placed here.at) (swept.closes (first_due here) going.only))))
+  closed : ClosedBy edition m going.first here going.sound p.next (p.rows - rows)
+  closed = closed_first edition m going.first here going.sound p.next (p.rows - rows) (ap (placed here.at) (swept.closes going.first going.only))
+
+  turned : result_after edition m (boundary_turn m p.next (counts_of (envelopes + 1) p.rows)) ≡ result_from edition m going.first here
+  turned = subst (λ (n : ℕ). result_after edition m (boundary_turn m p.next (counts_of (envelopes + 1) n)) ≡ result_from edition m going.first here) sum closed.same
+
+  further : Further m here.at (boundary_turn m p.next (counts_of (envelopes + 1) p.rows))
+  further = subst (λ (n : ℕ). Further m here.at (boundary_turn m p.next (counts_of (envelopes + 1) n))) sum (closed_further edition m going.first here going.sound p.next (p.rows - rows) closed)
+
+  goes : (get_or m p.next 0 ≡ EOT → ⊥) → boundary_turn m p.next (counts_of (envelopes + 1) p.rows) ≡ go (state_of p.next (envelopes + 1) p.rows)
+  goes other = sym (boundary_next m p.next (counts_of (envelopes + 1) p.rows) swept.inside (ne_eqb (get_or m p.next 0) EOT other))
 
   -- another envelope
-  gone_on : (get_or m p.next 0 ≡ EOT → ⊥) → TurnSo edition m here (go (state_of p.next (envelopes + 1) p.rows))
-  gone_on other = subst (TurnSo edition m here) (sym (boundary_next m p.next (counts_of (envelopes + 1) p.rows) swept.inside (ne_eqb (get_or m p.next 0) EOT other))) turned
+  gone_on : (get_or m p.next 0 ≡ EOT → ⊥) → Sound m (state_of p.next (envelopes + 1) p.rows) × (at < p.next)
+  gone_on other = subst (Further m here.at) (goes other) further
 
   pub further_on : (get_or m p.next 0 ≡ EOT → ⊥) → at < p.next
-  further_on other = (gone_on other).further.1
+  further_on other = (gone_on other).1
 
   pub going_on : (get_or m p.next 0 ≡ EOT → ⊥) → Going edition m from new p.next (envelopes + 1) p.rows
   going_on other =
       let so = gone_on other in
-      let later = so.further.1 in
+      let later = so.1 in
       record {
         headed = going.headed;
+        first = false;
         only = λ is. absurd (omega (arith, later, going.behind, is));
         behind = omega (arith, later, going.behind);
         inside = more_behind m going.headed.framed p.next swept.inside other;
-        sound = so.further.0;
-        same = so.same ∙ going.same;
+        sound = so.0;
+        same = ap (λ t. result_from edition m t (state_of p.next (envelopes + 1) p.rows)) (sym (ne_eqb (envelopes + 1) 0 (λ is. omega arith))) ∙ ap (result_after edition m) (sym (goes other)) ∙ turned ∙ going.same;
         noted = swept.noted;
       }
 
   -- the end
   good_end : get_or m p.next 0 ≡ EOT → length m ≡ p.next + 1 → p.rows ≤ most_rows → judged_as (reading edition m) ≡ Ok (record { envelopes = envelopes + 1; rows = p.rows })
   good_end is last few =
-      let so = subst (TurnSo edition m here) (sym (boundary_last m p.next (counts_of (envelopes + 1) p.rows) swept.inside (eq-eqb (get_or m p.next 0) EOT is) (omega (arith, last)))) turned in
+      let so = ap (result_after edition m) (boundary_last m p.next (counts_of (envelopes + 1) p.rows) swept.inside (eq-eqb (get_or m p.next 0) EOT is) (omega (arith, last))) ∙ turned in
       sym (judge_walk edition m going.headed.framed.short going.headed.begins (omega (arith, going.headed.long)))
-      ∙ ap limited (sym (so.same ∙ going.same))
+      ∙ ap limited (sym (so ∙ going.same))
       ∙ cond-false _ _ _ (le-ltb most_rows p.rows few)
 
   pub ended_so : get_or m p.next 0 ≡ EOT → (most : ℕ) → most ≤ most_rows → (r : Result Counts Unswept) → EndsSo m p.next (record { envelopes = envelopes + 1; rows = p.rows }) most r → SweptSo edition m (record { from = from; most = most }) new r

@@ -32,7 +32,7 @@ impl Sweep<'_> {
     {
         let capital = self.behind_digits(at);
         let b = self.message[capital];
-        if (b < b'A') | (b'Z' < b) {
+        if !b.is_ascii_uppercase() {
             return None;
         }
         let end = self.run_end(Class::Plain, capital + 1);

@@ -61,12 +61,12 @@ impl Sweep<'_> {
         if m[at] != GS {
             return Err(Unswept::Left);
         }
-        let version = (m[at + 1], m[at + 2]);
+        let version = match (m[at + 1], m[at + 2]) {
+            (b'0', b'2') => Version::Version02,
+            (b'9', b'6') => Version::Version96,
+            _ => return Err(Unswept::Left),
+        };
         notes.count(self.wanted, standing_at(Stage::VersionValue, 1, at + 1, 2))?;
-        match version {
-            (b'0', b'2') => self.pieces(Kind::Fields(Version::Version02), 1, at + 3, notes),
-            (b'9', b'6') => self.pieces(Kind::Fields(Version::Version96), 1, at + 3, notes),
-            _ => Err(Unswept::Left),
-        }
+        self.pieces(Kind::Fields(version), 1, at + 3, notes)
     }
 }
