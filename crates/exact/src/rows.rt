@@ -8,7 +8,8 @@ ghost use Rattle.exact.specs.Tables.{Fits, Room, FilledWith};
 use label::ROW;
 use walk::Cursor;
 
-// Puts a row's numbers into a table, from an index on, its envelope's ordinal last; all other numbers stay as they were.
+// Puts a row's numbers into a table, from an index on, its envelope's ordinal last; all other numbers stay as they were. `noted` has the
+// like for a row that is noted: what the numbers come from is another thing there.
 fn put_row(t: &mut [u32], at: usize, c: Cursor, ordinal: u32)
     requires { Fits t.old at c }
     ensures { t.new ≡ take at t.old ++ (numbers (row_of c) ordinal ++ drop (at + row_width) t.old) }
@@ -34,7 +35,7 @@ pub(crate) fn fill(m: &[u8], rows: usize, table: &mut [u32])
     for i in 0..rows {
         put_row(table, ROW * i, c, ordinal);
         c = steps::next(m, c);
-        // An indicator begins the next envelope, and no kind is below its own.
+        // An indicator begins the next envelope, and no kind is below its own: the step that `raised` says, as in `noted` and `given`.
         ordinal += u32::from(walk::kind_of(c.stage) < 2);
     }
 }

@@ -12,7 +12,8 @@ use label::{LEAST_FIELDS, Reason, Refusal, Version};
 use leaves::GS;
 use pieces::Kind;
 
-// Why a field of so many bytes is refused that isn't as stated: its length, by its side, which `limits::fits` doesn't tell, or its bytes.
+// Why a field of so many bytes is refused that isn't as stated: it is too short or too long, which `limits::fits` doesn't tell apart, or
+// else by its bytes.
 fn field_reason(version: Version, i: usize, n: usize) -> Reason
     ensures { result ≡ field_reason version i n }
 {

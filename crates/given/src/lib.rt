@@ -81,7 +81,7 @@ pub fn ordinals_counted(rows: &[u32]) -> bool
     }
     let mut ordinal = 0;
     for row in later {
-        // An indicator begins the next envelope, and no kind is below its own.
+        // An indicator begins the next envelope, and no kind is below its own: the step that `raised` says, as in `noted` and `exact`.
         ordinal += usize::from(row[0] < 2);
         if row[4] as usize != ordinal {
             return false;

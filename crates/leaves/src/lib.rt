@@ -1,4 +1,5 @@
-// What is asked of a stretch of bytes: whether all are of a class, and where a byte is. Every function takes every input.
+// What is asked of a stretch of bytes: whether all are of a class, and where a byte is; and what a digit is worth. Every function takes
+// every input.
 #![tactic(auto)]
 
 ghost use Rattle.std.specs.Prelude.{◌≡◌, not, ◌+◌, ◌-◌, eqb, drop};

@@ -1,6 +1,6 @@
-// The least and the greatest length of a transport field. The definition is `label`'s, with a row for each version; here stands version
-// 02's row alone, and version 96's pairs are worked out (02, No. 5). It is a crate of its own, so that no edit of a definition is tried
-// with its proof.
+// The least and the greatest length of a transport field, and how many fields a version has at most. The definitions are `label`'s, the
+// limits with a row for each version; here stands version 02's row alone, and version 96's pairs are worked out (02, No. 5). It is a crate
+// of its own, so that no edit of a definition is tried with its proof.
 #![tactic(auto)]
 
 ghost use Rattle.std.specs.Prelude.{◌≡◌};

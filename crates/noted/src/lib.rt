@@ -17,19 +17,21 @@ pub const NOTE: usize = 4;
 
 pub const NOTES: usize = NOTE * MOST_ROWS;
 
-// Copies a row's numbers from its note into a table, from an index on, its envelope's ordinal behind them.
-// By index: of a table whose `as_chunks_mut` were written a proof knows the length alone, and `hand_over` promises each number. To copy an
-// array of the five is no plainer and takes 11 instructions a row more (docs/PERFORMANCE.md).
+// Copies a row's numbers from its note into a table, from an index on, its envelope's ordinal behind them. By an index: of a table whose
+// `as_chunks_mut` were written a proof knows the length alone, and `hand_over` promises each number.
 fn copy_row(note: &[u16; NOTE], table: &mut [u32], at: usize, ordinal: u32)
     requires { at + row_width ≤ length table.old }
     ensures { table.new ≡ take at table.old ++ (numbers (row_from note.now 0) ordinal ++ drop (at + row_width) table.old) }
 {
     let [kind, format, start, length] = *note;
-    table[at] = u32::from(kind);
-    table[at + 1] = u32::from(format);
-    table[at + 2] = u32::from(start);
-    table[at + 3] = u32::from(length);
-    table[at + 4] = ordinal;
+    let row = [
+        u32::from(kind),
+        u32::from(format),
+        u32::from(start),
+        u32::from(length),
+        ordinal,
+    ];
+    table[at..at + ROW].copy_from_slice(&row);
 }
 
 // Copies the rows of one envelope, or of none; what lies behind them in the table stays as it was.
@@ -42,9 +44,9 @@ fn copy_alone(notes: &[[u16; NOTE]], table: &mut [u32])
     }
 }
 
-// A step of one expression: `given` and `exact` have it with numbers of their own types.
-// The ordinal at a row of a kind, behind a row with an ordinal: an indicator begins the next envelope, and no kind is below its own. To ask
-// for less costs two instructions a row, to ask for the very kind four.
+// The ordinal at a row of a kind, behind a row with an ordinal: an indicator begins the next envelope, and no kind is below its own. The
+// step stands in `given` and `exact` too, a line each: a public function couldn't ask that the count be small. It goes by the kind's number,
+// as `raised` does, which takes any.
 fn raised_by(ordinal: u32, kind: u16) -> u32
     requires { ordinal ≤ most_rows }
     ensures { result ≡ raised ordinal kind }

@@ -5,7 +5,7 @@ ghost use Rattle.label.specs.Elements.{element05, capital_and_more, element06, e
 use leaves::Class;
 
 // How many digits an element of 06 begins with at most.
-const MOST_DIGITS: usize = 3;
+pub const MOST_DIGITS: usize = 3;
 
 // 05: at least three bytes, the first two digits.
 pub(crate) fn element_05(s: &[u8]) -> bool

@@ -9,6 +9,7 @@ mod segments;
 ghost use Rattle.std.specs.Prelude.{◌≡◌};
 ghost use Rattle.pieces.specs.PieceTests.{piece_test};
 
+pub use elements::MOST_DIGITS;
 use label::Version;
 
 // A body that runs to an RS, by its format, and for 01 its version.

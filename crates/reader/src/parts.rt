@@ -10,7 +10,7 @@ use label::{Counts, Edition, MOST_ROWS, Stretch};
 use noted::NOTE;
 use sweeps::Wanted;
 
-// Where a row's part lies in a message that was swept, by the note of this row.
+// Where a row's part lies in a message that was swept, by the note of this row. It stands apart as `hand_over` does (table.rt).
 fn stretch_swept(
     edition: Edition,
     m: &[u8],

@@ -16,7 +16,8 @@ const FEW_ROWS: usize = 64;
 
 const FEW_NOTES: usize = NOTE * FEW_ROWS;
 
-// The answer for a message that was swept, whose rows are noted.
+// The answer for a message that was swept, whose rows are noted. Edition and message stand in the contract alone: without this function the
+// proof of `read_noting` doesn't close, as that the notes keep their length is learnt where they are handed on.
 fn hand_over(
     edition: Edition,
     message: &[u8],
@@ -32,7 +33,7 @@ fn hand_over(
     noted::hand_over(found.envelopes, &notes[..end], table)
 }
 
-// With notes for as many rows as so many numbers are.
+// Reads with notes for as many rows as so many numbers are.
 fn read_noting<const NUMBERS: usize>(
     edition: Edition,
     message: &[u8],

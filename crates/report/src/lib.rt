@@ -49,7 +49,7 @@ pub fn print_answer<W: Write>(out: &mut W, reading: Reading) -> io::Result<()>
     }
 }
 
-// Prints the table's first rows, a line each.
+// Prints the table's first rows, a line each: by their numbers, as `print_row` is public and takes one.
 fn print_rows<W: Write>(out: &mut W, table: &[u32], rows: usize) -> io::Result<()>
     ensures { OnOk result (Appends (W.contents out.old) (W.contents out.new) (row_lines table.now rows)) }
 {

@@ -12,7 +12,7 @@ pub(crate) fn byte_at(m: &[u8], i: usize) -> u8
 }
 
 // What a byte counts as a digit, 0 below `0` and where there is none. `leaves::digit` doesn't fit: `first` and `next` promise so for every
-// byte, `indicator_at` of walk's specs/Cursors.
+// byte, by `indicator_at` of walk's specs/Cursors.
 fn digit_at(m: &[u8], i: usize) -> u8
     ensures { result ≡ get_or m.now i 0 - 0x30 }
 {

@@ -34,6 +34,7 @@ fn run_files(rt: &(impl Files + Print + Eprint), edition: Edition) -> io::Result
 }
 
 // Tries each vector of a file. One that can't be opened is named on standard error, and the others are run.
+// That the trial may be called is asked of each function that hands it on: a closure has no other way to say so.
 fn run_file<R: Files + Eprint, W: Write, F: Fn(&mut W, Edition, &[u8]) -> io::Result<()>>(
     rt: &R,
     out: &mut W,

@@ -30,29 +30,21 @@ fn print_run<W: Write>(out: &mut W, run: &[u8]) -> io::Result<()> {
         return print_each(out, run);
     }
     write!(out, "{{{times}*")?;
-    print_name(out, run[0])?;
+    print_byte(out, run[0], "", "")?;
     out.write_all(b"}")
 }
 
 fn print_each<W: Write>(out: &mut W, bytes: &[u8]) -> io::Result<()> {
     for b in bytes {
-        print_byte(out, *b)?;
+        print_byte(out, *b, "{", "}")?;
     }
     Ok(())
 }
 
-// Prints a control byte by its name in braces, another as it is.
-fn print_byte<W: Write>(out: &mut W, b: u8) -> io::Result<()> {
+// Prints a control byte by its name, given what stands around a name, another as it is.
+fn print_byte<W: Write>(out: &mut W, b: u8, before: &str, behind: &str) -> io::Result<()> {
     match name(b) {
-        Some(name) => write!(out, "{{{name}}}"),
-        None => out.write_all(&[b]),
-    }
-}
-
-// Prints a control byte by its name, another as it is.
-fn print_name<W: Write>(out: &mut W, b: u8) -> io::Result<()> {
-    match name(b) {
-        Some(name) => write!(out, "{name}"),
+        Some(name) => write!(out, "{before}{name}{behind}"),
         None => out.write_all(&[b]),
     }
 }

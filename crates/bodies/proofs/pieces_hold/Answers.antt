@@ -1,3 +1,4 @@
+-- `pieces_hold` asks of each piece, by its number.
 use Rattle.std.proofs.Common.{rules, tests, eqb}
 use mathlib.Core.Path.{ap, ◌∙◌}
 use Rattle.std.proofs.lemmas.Iterator.Search.{all_from_yields_List}

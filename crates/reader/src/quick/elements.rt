@@ -8,7 +8,7 @@ ghost use Rattle.sweeps.specs.Quick.{PassesTo, digit_run, ElementsOf, FormatSwep
 use crate::quick::notes::Notes;
 use crate::quick::sweep::Sweep;
 use leaves::{Class, GS};
-use pieces::Kind;
+use pieces::{Kind, MOST_DIGITS};
 use sweeps::Unswept;
 
 impl Sweep<'_> {
@@ -19,7 +19,7 @@ impl Sweep<'_> {
     {
         let digits = self.message[at..]
             .iter()
-            .take(3)
+            .take(MOST_DIGITS)
             .take_while(|b| leaves::in_class(Class::Digit, **b))
             .count();
         at + digits
@@ -42,7 +42,7 @@ impl Sweep<'_> {
         Some(end)
     }
 
-    // 05, 06, 12: GS, then elements.
+    // 05, 06, 12: GS, then elements. The kind tells the format, as `ElementsOf` has it: to look it up is no plainer than to be given it.
     pub(crate) fn elements<const N: usize>(
         &self,
         k: Kind,

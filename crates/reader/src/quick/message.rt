@@ -32,18 +32,17 @@ impl Sweep<'_> {
         }
     }
 
-    // The format with a number, behind its indicator, by the shape that the edition gives it.
+    // The format with a number, behind its indicator, by the shape that its edition gives it.
     fn format<const N: usize>(
         &self,
-        edition: Edition,
         f: u32,
         at: usize,
         notes: &mut Notes<N>,
     ) -> Result<usize, Unswept>
         requires { StandsAt self.now.message.now self.now.wanted at notes.old.rows notes.old.numbers (opening self.now.message.now f at (rule_of widest f)) }
-        ensures { IfOk result (λ next. KnownSwept edition self.now.message.now self.now.wanted.from f at notes.old.rows (record { next = next; rows = notes.new.rows }) notes.new.numbers) }
+        ensures { IfOk result (λ next. KnownSwept self.now.edition self.now.message.now self.now.wanted.from f at notes.old.rows (record { next = next; rows = notes.new.rows }) notes.new.numbers) }
     {
-        let shape = shape_in(edition, f as usize);
+        let shape = shape_in(self.edition, f as usize);
         match shape {
             Shape::Fields => self.transport(at, notes),
             Shape::Segments03 => self.segments(3, at, notes),
@@ -59,18 +58,13 @@ impl Sweep<'_> {
     }
 
     // An envelope: its indicator and its format.
-    fn envelope<const N: usize>(
-        &self,
-        edition: Edition,
-        at: usize,
-        notes: &mut Notes<N>,
-    ) -> Result<usize, Unswept>
+    fn envelope<const N: usize>(&self, at: usize, notes: &mut Notes<N>) -> Result<usize, Unswept>
         requires { StandsAt self.now.message.now self.now.wanted at notes.old.rows notes.old.numbers (indicator_at self.now.message.now at) × (at + 1 < length self.now.message.now) }
-        ensures { IfOk result (λ next. EnvelopeSwept edition self.now.message.now self.now.wanted.from at notes.old.rows (record { next = next; rows = notes.new.rows }) notes.new.numbers) }
+        ensures { IfOk result (λ next. EnvelopeSwept self.now.edition self.now.message.now self.now.wanted.from at notes.old.rows (record { next = next; rows = notes.new.rows }) notes.new.numbers) }
     {
         let f = self.format_at(at).ok_or(Unswept::Left)?;
         notes.count(self.wanted, standing_at(Stage::Indicator, f, at, 2))?;
-        self.format(edition, f, at + 2, notes)
+        self.format(f, at + 2, notes)
     }
 
     // At an EOT behind the last envelope: good if it is the message's last byte.
@@ -85,19 +79,15 @@ impl Sweep<'_> {
     }
 
     // The whole message, an envelope a turn.
-    fn envelopes<const N: usize>(
-        &self,
-        edition: Edition,
-        notes: &mut Notes<N>,
-    ) -> Result<Counts, Unswept>
+    fn envelopes<const N: usize>(&self, notes: &mut Notes<N>) -> Result<Counts, Unswept>
         requires { ((self.now.wanted.most ≤ most_rows) × (notes.old.rows ≡ 0)) × Headed self.now.message.now }
-        ensures { SweptSo edition self.now.message.now self.now.wanted notes.new.numbers result }
+        ensures { SweptSo self.now.edition self.now.message.now self.now.wanted notes.new.numbers result }
     {
         let m = self.message;
         let mut at = HEADER_LENGTH;
         let mut envelopes = 0;
         loop {
-            at = self.envelope(edition, at, notes)?;
+            at = self.envelope(at, notes)?;
             envelopes += 1;
             if m[at] == EOT {
                 let rows = notes.rows;
@@ -130,5 +120,10 @@ pub(crate) fn sweep<const N: usize>(
     requires { ((wanted.most ≤ most_rows) × (notes.old.rows ≡ 0)) × Headed message.now }
     ensures { SweptSo edition message.now wanted notes.new.numbers result }
 {
-    Sweep { message, wanted }.envelopes(edition, notes)
+    let swept = Sweep {
+        edition,
+        message,
+        wanted,
+    };
+    swept.envelopes(notes)
 }

@@ -18,7 +18,7 @@ pub(crate) struct Notes<const N: usize> {
 }
 
 // Puts a row's numbers into the notes, from an index on.
-// By index: `copy_from_slice` is a loop, and a reading of 1,023 rows would take 58,000 instructions more, past its bar (case b).
+// By index: with an array and `copy_from_slice` a reading of 1,023 rows takes 58,000 instructions more and misses its bar (case b).
 fn put_note(notes: &mut [u16], at: usize, c: Cursor)
     requires { (at + note_width ≤ length notes.old) × ((c.start + c.length ≤ longest) × (c.format ≤ 99)) }
     ensures { notes.new ≡ set (set (set (set notes.old at (kind_of c.stage)) (at + 1) c.format) (at + 2) c.start) (at + 3) c.length }

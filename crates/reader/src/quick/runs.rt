@@ -10,9 +10,9 @@ use leaves::Class;
 use pieces::Kind;
 
 impl Sweep<'_> {
-    // Where a run of bytes of a class ends. The message's EOT is of no such class, so that no end is asked for: a `for`, `position` or
-    // `take_while` asks at each byte, and cases b and g of the benchmark take 6,300 instructions more each, or 10,400. (g) is 0.695 of (b)
-    // as it is, and its goal is 0.7 (docs/PERFORMANCE.md).
+    // Where a run of bytes of a class ends. The message's EOT is of no such class, so that no end is asked for. By `take_while`
+    // and `count` cases b and e of the benchmark miss their bars (docs/PERFORMANCE.md); `position` and `for` have an end that can't be
+    // reached, and are no plainer.
     pub(crate) fn run_end(&self, k: Class, at: usize) -> usize
         requires { (class_of k endByte ≡ false) × (at < length self.now.message.now) }
         ensures { RunsTo (class_of k) self.now.message.now at result }

@@ -1,3 +1,4 @@
+-- `put_row` appends marks, then content.
 use native.Mathlib.Omega.{arith}
 use borrow.Author.Tests.{leb-true}
 use lib.ListN.{length}

@@ -41,6 +41,6 @@ returns g c = let args = c.args in
     let new = rest.new.notes in
     IfOk-weaker rest.result _ _
     (λ next so.
-    envelope_swept m pre.framed s.wanted.from args.at args.notes.now.rows f.f says args.edition (record { next = next; rows = new.rows }) new.numbers
-    (subst (λ (n : ℕ). KnownSwept args.edition m s.wanted.from f.f (args.at + 2) n (record { next = next; rows = new.rows }) new.numbers) c.in_ok-count.ensures.counted so))
+    envelope_swept m pre.framed s.wanted.from args.at args.notes.now.rows f.f says s.edition (record { next = next; rows = new.rows }) new.numbers
+    (subst (λ (n : ℕ). KnownSwept s.edition m s.wanted.from f.f (args.at + 2) n (record { next = next; rows = new.rows }) new.numbers) c.in_ok-count.ensures.counted so))
     rest.ensures

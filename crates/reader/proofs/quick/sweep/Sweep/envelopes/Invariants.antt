@@ -5,7 +5,7 @@ use Rattle.sweeps.proofs.Going.{Going}
 use Rattle.reader.proofs.quick.sweep.Sweep.envelopes.Given as goal
 
 abbrev pub invariant-loop-at : goal.invariant-loop-at
-invariant-loop-at g l = Going l.edition l.self.message.now l.self.wanted.from l.notes.numbers l.at l.envelopes l.notes.rows
+invariant-loop-at g l = Going l.self.edition l.self.message.now l.self.wanted.from l.notes.numbers l.at l.envelopes l.notes.rows
 
 abbrev pub decreases-loop-at : goal.decreases-loop-at
 decreases-loop-at g l = length l.self.message.now - l.at

@@ -44,8 +44,8 @@ returns g c = let args = c.args in
     let ready = begins m args.at c.if-at-m.false in
     let version = c.match-m-at.version in
     let found : transport_found m args.at ≡ body_found (Fields version) 2 m (args.at + 3) = elim c.match-m-at.branch [
-      in-48-eq50 w ↦ found_02 m args.at rows ready c.if-m-at-ne-GS.false (omega (arith, w.in-48-eq50)) (omega (arith, w.in-48-eq50)) ∙ ap (λ v. body_found (Fields v) 2 m (args.at + 3)) (sym w.version-is)
-    | in-57-eq54 w ↦ found_96 m args.at rows ready c.if-m-at-ne-GS.false (omega (arith, w.in-57-eq54)) (omega (arith, w.in-57-eq54)) ∙ ap (λ v. body_found (Fields v) 2 m (args.at + 3)) (sym w.version-is)
+      | in-48-eq50 w ↦ found_02 m args.at rows ready c.if-m-at-ne-GS.false (omega (arith, w.in-48-eq50)) (omega (arith, w.in-48-eq50)) ∙ ap (λ v. body_found (Fields v) 2 m (args.at + 3)) (sym w.version-is)
+      | in-57-eq54 w ↦ found_96 m args.at rows ready c.if-m-at-ne-GS.false (omega (arith, w.in-57-eq54)) (omega (arith, w.in-57-eq54)) ∙ ap (λ v. body_found (Fields v) 2 m (args.at + 3)) (sym w.version-is)
     ] in
     let rest = c.pieces in
     let new = rest.new.notes in
