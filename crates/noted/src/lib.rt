@@ -45,8 +45,8 @@ fn copy_alone(notes: &[[u16; NOTE]], table: &mut [u32])
 }
 
 // The ordinal at a row of a kind, behind a row with an ordinal: an indicator begins the next envelope, and no kind is below its own. The
-// step stands in `given` and `exact` too, a line each: a public function couldn't ask that the count be small. It goes by the kind's number,
-// as `raised` does, which takes any.
+// step stands in `given` and `exact` too, a line each: a public function couldn't ask that the count be small. It goes by the kind's
+// number, as `raised` does, which takes any.
 fn raised_by(ordinal: u32, kind: u16) -> u32
     requires { ordinal ≤ most_rows }
     ensures { result ≡ raised ordinal kind }
