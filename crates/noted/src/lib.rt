@@ -17,21 +17,19 @@ pub const NOTE: usize = 4;
 
 pub const NOTES: usize = NOTE * MOST_ROWS;
 
-// Copies a row's numbers from its note into a table, from an index on, its envelope's ordinal behind them. By an index: of a table whose
-// `as_chunks_mut` were written a proof knows the length alone, and `hand_over` promises each number.
+// Copies a row's numbers from its note into a table, from an index on, its envelope's ordinal behind them.
+// By index: of a table whose `as_chunks_mut` were written a proof knows the length alone, and `hand_over` promises each number. With an
+// array of the five, copied, case d of the benchmark misses its bar (docs/PERFORMANCE.md).
 fn copy_row(note: &[u16; NOTE], table: &mut [u32], at: usize, ordinal: u32)
     requires { at + row_width ≤ length table.old }
     ensures { table.new ≡ take at table.old ++ (numbers (row_from note.now 0) ordinal ++ drop (at + row_width) table.old) }
 {
     let [kind, format, start, length] = *note;
-    let row = [
-        u32::from(kind),
-        u32::from(format),
-        u32::from(start),
-        u32::from(length),
-        ordinal,
-    ];
-    table[at..at + ROW].copy_from_slice(&row);
+    table[at] = u32::from(kind);
+    table[at + 1] = u32::from(format);
+    table[at + 2] = u32::from(start);
+    table[at + 3] = u32::from(length);
+    table[at + 4] = ordinal;
 }
 
 // Copies the rows of one envelope, or of none; what lies behind them in the table stays as it was.
