@@ -11,8 +11,8 @@ use pieces::Kind;
 
 impl Sweep<'_> {
     // Where a run of bytes of a class ends. The message's EOT is of no such class, so that no end is asked for. By `take_while`
-    // and `count` cases b and e of the benchmark miss their bars (docs/PERFORMANCE.md); `position` and `for` have an end that can't be
-    // reached, and are no plainer.
+    // and `count` case e of the benchmark misses its bar (docs/PERFORMANCE.md); `position` and `for` have an end that can't be reached, and
+    // so are no plainer.
     pub(crate) fn run_end(&self, k: Class, at: usize) -> usize
         requires { (class_of k endByte ≡ false) × (at < length self.now.message.now) }
         ensures { RunsTo (class_of k) self.now.message.now at result }
