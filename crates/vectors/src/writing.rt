@@ -14,7 +14,7 @@ pub(crate) fn run_rows<W: Write>(out: &mut W, edition: Edition, text: &[u8]) -> 
     write(out, edition, &held, &rows, decimals::number(length))
 }
 
-// The output holds dots before, so that it shows which bytes were written.
+// The output holds dots before, so that it shows which bytes were written. The parameters are the writer's, and where to print.
 fn write<W: Write>(
     out: &mut W,
     edition: Edition,
