@@ -170,11 +170,3 @@ rows_inside (b ∷ bs) = by (eqb b FS) (eqb b GS) (eqb b US) refl refl refl (row
     by false true false p q r h = omega arith
     by false false true p q r h = omega arith
     by false false false p q r h = omega arith
-
-pub tally_inside : (c : ℕ) (bs : Bytes) → tally_of c bs ≤ length bs
-tally_inside c [] = omega arith
-tally_inside c (b ∷ bs) = by (eqb b c) (tally_inside c bs)
-  where
-    by : (t : Bool) → tally_of c bs ≤ length bs → cond t (suc (tally_of c bs)) (tally_of c bs) ≤ suc (length bs)
-    by true h = omega arith
-    by false h = omega arith

@@ -13,7 +13,8 @@ use Rattle.leaves.specs.Seek.{seek}
 use Rattle.pieces.specs.declared.Kind.{Kind}
 use Rattle.pieces.specs.declared.Kind.TheVariants.{Fields, Segments03, Segments04, Elements05, Elements06, Text, Elements12}
 use Rattle.bodies.specs.Kinds.{permitted_of, rules_of, rows_of_body}
-use Rattle.bodies.proofs.RuleLaws.{rows_inside, tally_inside}
+use Rattle.leaves.proofs.Turns.{tally_inside}
+use Rattle.bodies.proofs.RuleLaws.{rows_inside}
 use Rattle.faults.specs.PieceFaults.{fault_of}
 use Rattle.envelope.specs.Judged.{closed_at}
 use Rattle.envelope.specs.Bodies.{body_found}

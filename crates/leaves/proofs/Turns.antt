@@ -71,3 +71,11 @@ seek_blocks c size s (suc n) inside lack =
     let block : seek c (drop (n * size) s) ≡ size + seek c (drop (n * size + size) s) = seek_block c s (n * size) size (omega arith) (lack n (omega arith)) in
     let next : n * size + size ≡ suc n * size = omega arith in
     front ∙ ap (λ k. n * size + k) (block ∙ ap (λ k. size + seek c (drop k s)) next) ∙ omega arith
+
+pub tally_inside : (c : ℕ) (bs : Bytes) → tally_of c bs ≤ length bs
+tally_inside c [] = omega arith
+tally_inside c (b ∷ bs) = by (eqb b c) (tally_inside c bs)
+  where
+    by : (t : Bool) → tally_of c bs ≤ length bs → cond t (suc (tally_of c bs)) (tally_of c bs) ≤ suc (length bs)
+    by true h = omega arith
+    by false h = omega arith

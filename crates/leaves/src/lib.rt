@@ -48,7 +48,7 @@ pub fn in_class(k: Class, b: u8) -> bool
         Class::Digit => b.is_ascii_digit(),
         Class::CapitalOrDigit => b.is_ascii_uppercase() | b.is_ascii_digit(),
         Class::PlainOrGs => is_plain(b) | (b == GS),
-        Class::SegmentByte => is_plain(b) | matches!(b, FS | GS | US),
+        Class::SegmentByte => is_plain(b) | (b == FS) | (b == GS) | (b == US),
         Class::TextByte => b.is_ascii() & !matches!(b, EOT | FS | GS | RS | US),
         Class::RestByte => b.is_ascii() & !matches!(b, RS | EOT),
     }

@@ -1,2 +1,3 @@
+pub mod TallyTurns
 pub mod Agreement
 pub mod OneOutcome

@@ -2,7 +2,7 @@
 use Prim.Native.Nat.{◌+◌}
 use mathlib.Core.Path.{ap}
 use Rattle.label.specs.Bytes.{GS}
-use Rattle.bodies.proofs.RuleLaws.{tally_inside}
+use Rattle.leaves.proofs.Turns.{tally_inside}
 use borrow.Author.Rules.{rules}
 use Rattle.bodies.proofs.piece_rows.Goals as goal
 

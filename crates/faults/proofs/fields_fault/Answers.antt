@@ -6,7 +6,7 @@ use lib.Dec.{ltb}
 use Rattle.std.proofs.lemmas.Bool.{cond-true, cond-false}
 use Rattle.label.specs.Bytes.{GS}
 use Rattle.label.specs.Fields.{least_fields}
-use Rattle.bodies.proofs.RuleLaws.{tally_inside}
+use Rattle.leaves.proofs.Turns.{tally_inside}
 use Rattle.faults.proofs.FaultLaws.{in_fields}
 use borrow.Author.Rules.{rules}
 use Rattle.faults.proofs.fields_fault.Goals as goal

@@ -1,15 +1,24 @@
--- `tally` counts the bytes that pass.
-use Rattle.std.proofs.Common.{ℕ, ◌≡◌, ◌∙◌, ap, sym, refl, eqb, cond, arith}
-use Rattle.std.specs.List.{count_by}
-use Rattle.std.proofs.lemmas.Grind.{common_steps}
-use Rattle.std.proofs.lemmas.List.Recursion.{is_count_by}
+-- A turn counts a block of 64 bytes; the bytes that are left are fewer.
+use Rattle.std.proofs.Common.{◌≡◌, ◌+◌, ◌∙◌, take, drop, take-append-drop, arith, ap, sym}
 use Rattle.leaves.specs.Seek.{tally_of}
+use Rattle.leaves.proofs.Turns.{tally_behind, tally_inside}
 use Rattle.tallies.proofs.tally.Goals as goal
 
-pub returns : goal.returns
-returns c =
-    let s = c.args.s.now in
-    let is = λ (b : ℕ). eqb b c.args.c in
-    let counted : c.count.result ≡ count_by (λ b. eqb b c.args.c) c.args.s.now = grind (arith, common_steps) in
-    let same = is_count_by (tally_of c.args.c) is refl (λ x xs. ap (λ n. cond (eqb x c.args.c) n (tally_of c.args.c xs)) (omega arith)) s in
-    counted ∙ sym same
+pub overflow_add-n : goal.overflow_add-n
+overflow_add-n c =
+    let rest = c.loop-block.rest.now in
+    let cut = c.in-Some.ensures.cases in
+    let whole : tally_of c.args.c rest ≡ tally_of c.args.c (take 64 rest) + tally_of c.args.c (drop 64 rest)
+    = ap (tally_of c.args.c) (sym (take-append-drop 64 rest)) ∙ tally_behind c.args.c (take 64 rest) (drop 64 rest) in
+    omega (arith, whole, c.from-n.ensures, c.tally_few.ensures, ap (tally_of c.args.c) cut.1, c.loop-block.invariant, tally_inside c.args.c c.args.s.now)
+
+pub loop-block-preserved : goal.loop-block-preserved
+loop-block-preserved c =
+    let rest = c.loop-block.rest.now in
+    let cut = c.in-Some.ensures.cases in
+    let whole : tally_of c.args.c rest ≡ tally_of c.args.c (take 64 rest) + tally_of c.args.c (drop 64 rest)
+    = ap (tally_of c.args.c) (sym (take-append-drop 64 rest)) ∙ tally_behind c.args.c (take 64 rest) (drop 64 rest) in
+    omega (arith, whole, c.from-n.ensures, c.tally_few.ensures, ap (tally_of c.args.c) cut.1, ap (tally_of c.args.c) cut.2, c.loop-block.invariant)
+
+pub overflow_add-result : goal.overflow_add-result
+overflow_add-result c = omega (arith, c.from.ensures, c.tally_few-2.ensures, c.loop-block.invariant, tally_inside c.args.c c.args.s.now)

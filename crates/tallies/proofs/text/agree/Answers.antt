@@ -7,6 +7,7 @@ use Rattle.std.proofs.lemmas.Iterator.Consumers.{YieldsList-at, count_from_yield
 use Rattle.std.proofs.lemmas.Iterator.Search.{YieldsList-from_take_while}
 use Rattle.std.proofs.lemmas.List.Folds.{length-prefix_len}
 use borrow.Author.Tests.{tests}
+use Rattle.label.specs.ReadMessage.{agreement}
 use Rattle.tallies.proofs.Agreement.{agree_pairs}
 use Rattle.tallies.proofs.text.agree.Goals as goal
 
@@ -19,4 +20,5 @@ returns c =
     let counted = count_from_yields_List c.take_while.result c.count.result c.count.ensures.ran
     (YieldsList-from_take_while _ same (YieldsList-at c.take_while.ensures.source (YieldsList-from_zip (YieldsList-at c.zip.ensures.first (YieldsList-from_slice m cc)) (YieldsList-from_slice text cc)))
     c.take_while.ensures.closure c.take_while.ensures.done (λ x b q k. search (rules, tests))) in
-    counted ∙ length-prefix_len same (zip m text) ∙ agree_pairs m text
+    let agreed : c.count.result ≡ agreement text m = counted ∙ length-prefix_len same (zip m text) ∙ agree_pairs m text in
+    grind (arith, common_steps, agreed)
