@@ -26,6 +26,17 @@ fn marks_before(before: Option<Given>, row: Given) -> &'static [u8]
     }
 }
 
+// Puts marks, one at a time: there are so few that a call to copy them takes longer.
+fn put_marks(marks: &[u8], out: &mut Candidate) -> Result<(), CapacityError>
+    ensures ok { OnOk result (out.new.items ≡ out.old.items ++ marks.now) }
+    ensures long { OnErr result (longest < length out.old.items + length marks.now) }
+{
+    for mark in marks {
+        out.try_push(*mark).map_err(|full| full.simplify())?;
+    }
+    Ok(())
+}
+
 // Puts a row: what stands before it, and its content.
 fn put_row(
     held: &[u8],
@@ -37,7 +48,7 @@ fn put_row(
     ensures ok { OnOk result (out.new.items ≡ out.old.items ++ laid held.now (option_map as_row before) (as_row row)) }
     ensures long { OnErr result (longest < length out.old.items + length (laid held.now (option_map as_row before) (as_row row))) }
 {
-    out.try_extend_from_slice(marks_before(before, row))?;
+    put_marks(marks_before(before, row), out)?;
     let start = row.start as usize;
     let end = start + row.length as usize;
     out.try_extend_from_slice(&held[start..end])
