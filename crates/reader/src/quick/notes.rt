@@ -1,5 +1,5 @@
 // Notes: the rows that the sweep has gone over, as four numbers each: kind, format, start and length.
-ghost use Rattle.std.specs.Prelude.{◌≡◌, ◌+◌, ◌≤◌, length, set, IfOk};
+ghost use Rattle.std.specs.Prelude.{◌≡◌, ◌+◌, ◌≤◌, ◌<◌, length, set, IfOk};
 ghost use Rattle.label.specs.Limits.{longest};
 ghost use Rattle.noted.specs.Noted.{note_width};
 ghost use Rattle.walk.specs.Cursors.{kind_of};
@@ -44,17 +44,34 @@ fn note(notes: &mut [u16], from: usize, row: usize, c: Cursor)
 }
 
 impl<const N: usize> Notes<N> {
+    // Whether a row more is asked for. It is asked before a row of any length is looked at: else a message of more rows than were asked for
+    // has one of them gone over in vain, and that row may be most of the message.
+    pub(crate) fn asked(&self, w: Wanted) -> Result<(), Unswept>
+        ensures { IfOk result (λ u. self.now.rows < w.most) }
+    {
+        if w.most <= self.rows {
+            return Err(Unswept::Full);
+        }
+        Ok(())
+    }
+
+    // Goes over a row that is asked for.
+    pub(crate) fn put(&mut self, w: Wanted, c: Cursor)
+        requires { Notable w.most c × (self.old.rows < w.most) }
+        ensures { CountedOne w self.old.rows self.old.numbers self.new.rows self.new.numbers c }
+    {
+        let row = self.rows;
+        note(&mut self.numbers, w.from, row, c);
+        self.rows = row + 1;
+    }
+
     // Goes over a row, if there are not yet as many as were asked for.
     pub(crate) fn count(&mut self, w: Wanted, c: Cursor) -> Result<(), Unswept>
         requires { Notable w.most c }
         ensures { IfOk result (λ u. CountedOne w self.old.rows self.old.numbers self.new.rows self.new.numbers c) }
     {
-        let row = self.rows;
-        if w.most <= row {
-            return Err(Unswept::Full);
-        }
-        note(&mut self.numbers, w.from, row, c);
-        self.rows = row + 1;
+        self.asked(w)?;
+        self.put(w, c);
         Ok(())
     }
 }

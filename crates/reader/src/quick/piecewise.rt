@@ -61,19 +61,21 @@ impl Sweep<'_> {
         let m = self.message;
         let before = notes.rows;
         let mut at = start;
+        notes.asked(self.wanted)?;
         loop {
             let end = self
                 .end_of(k, notes.rows - before, at)
                 .ok_or(Unswept::Left)?;
             let b = m[end];
             let size = end - at;
-            notes.count(self.wanted, standing_at(Stage::Piece, f, at, size))?;
+            notes.put(self.wanted, standing_at(Stage::Piece, f, at, size));
             if b == RS && last_right(k, notes.rows - before, size) {
                 return Ok(end + 1);
             }
             if b != GS {
                 return Err(Unswept::Left);
             }
+            notes.asked(self.wanted)?;
             at = end + 1;
         }
     }

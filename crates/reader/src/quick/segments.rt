@@ -59,10 +59,11 @@ impl Sweep<'_> {
             if (b != GS) & (b != US) {
                 return Err(Unswept::Left);
             }
+            notes.asked(self.wanted)?;
             let at = end + 1;
             end = self.run_end(Class::Plain, at);
             let behind = m[end];
-            notes.count(self.wanted, standing_at(stage_behind(b), f, at, end - at))?;
+            notes.put(self.wanted, standing_at(stage_behind(b), f, at, end - at));
             b = behind;
         }
     }
@@ -77,8 +78,9 @@ impl Sweep<'_> {
         requires { SegmentsDue self.now.message.now self.now.wanted f at notes.old.rows notes.old.numbers (plain_row self.now.message.now Stage.Tag f at) }
         ensures { IfOk result (λ next. SegmentSwept self.now.message.now self.now.wanted.from f at notes.old.rows (record { next = next; rows = notes.new.rows }) notes.new.numbers) }
     {
+        notes.asked(self.wanted)?;
         let end = self.tag_end(at).ok_or(Unswept::Left)?;
-        notes.count(self.wanted, standing_at(Stage::Tag, f, at, end - at))?;
+        notes.put(self.wanted, standing_at(Stage::Tag, f, at, end - at));
         self.later(f, end, notes)
     }
 

@@ -20,6 +20,7 @@ impl Sweep<'_> {
         requires { StandsAt self.now.message.now self.now.wanted at notes.old.rows notes.old.numbers (opening self.now.message.now 7 at (rule_of widest 7)) }
         ensures { IfOk result (λ next. FormatSwept self.now.message.now self.now.wanted.from 7 at notes.old.rows (record { next = next; rows = notes.new.rows }) notes.new.numbers) }
     {
+        notes.asked(self.wanted)?;
         let m = self.message;
         let end = leaves::find_far(m, at, RS);
         if m.len() <= end {
@@ -28,7 +29,7 @@ impl Sweep<'_> {
         if !leaves::all_in(Class::TextByte, &m[at..end]) {
             return Err(Unswept::Left);
         }
-        notes.count(self.wanted, standing_at(Stage::Body, 7, at, end - at))?;
+        notes.put(self.wanted, standing_at(Stage::Body, 7, at, end - at));
         Ok(end + 1)
     }
 }

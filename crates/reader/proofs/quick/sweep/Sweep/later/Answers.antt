@@ -36,8 +36,8 @@ loop-b-preserved g c = let args = c.args in
     let m = s.message.now in
     let at = c.loop-b in
     let end = c.run_end-end in
-    let new = c.count.new.self in
-    let one = c.in_ok-count.ensures in
+    let new = c.put.new.self in
+    let one = c.put.ensures in
     let row = c.standing_at in (
       refl,
       subst (λ (n : ℕ). Rowing m s.wanted.from args.f args.start args.notes.now.rows new.numbers end.result n) (sym one.counted)

@@ -16,8 +16,8 @@ later-requires g c = let args = c.args in
     let pre = c.requires in
     let end = c.in_ok-end in
     let to = subst (λ (o : Option ℕ). IfSome o (TagTo m args.at)) end.ensures.ok_part c.tag_end.ensures in
-    let new = c.count.new.self in
-    let one = c.in_ok-count.ensures in
+    let new = c.put.new.self in
+    let one = c.put.ensures in
     let row = c.standing_at in (
       search rules,
       subst (λ (n : ℕ). SegmentsDue m s.wanted args.f end.end n new.numbers (after_sub_element m args.f end.end)) (sym one.counted)
@@ -41,5 +41,5 @@ returns g c = let args = c.args in
     IfOk-weaker rest.result _ _
     (λ next so.
     segment_swept m s.wanted.from args.f args.at args.notes.now.rows end.end (record { next = next; rows = new.rows }) new.numbers to
-    (subst (λ (n : ℕ). LaterSwept m s.wanted.from args.f end.end n (record { next = next; rows = new.rows }) new.numbers) c.in_ok-count.ensures.counted so))
+    (subst (λ (n : ℕ). LaterSwept m s.wanted.from args.f end.end n (record { next = next; rows = new.rows }) new.numbers) c.put.ensures.counted so))
     rest.ensures

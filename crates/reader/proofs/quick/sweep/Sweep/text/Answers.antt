@@ -11,8 +11,8 @@ returns g c = let args = c.args in
     let m = args.self.now.message.now in
     let from = args.self.now.wanted.from in
     let end = c.find_far-end in
-    let new = c.count.new.self in
-    let one = c.in_ok-count.ensures in
+    let new = c.put.new.self in
+    let one = c.put.ensures in
     subst (λ (n : ℕ). FormatSwept m from 7 args.at args.notes.now.rows (record { next = end.result + 1; rows = n }) new.numbers) (sym one.counted)
     (text_swept m pre.framed from args.at args.notes.now.rows end.result pre.inside end.ensures c.if-m-end.false args.notes.now.numbers new.numbers c.standing_at.result
     (sym c.all_in.ensures ∙ c.if-not-all_in.false) c.standing_at.ensures pre.noted one.noted)
