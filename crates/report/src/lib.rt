@@ -8,6 +8,7 @@ ghost use Rattle.label.specs.Answer.{answer_of};
 ghost use Rattle.label.specs.Writing.{write_answer_of};
 ghost use Rattle.report.specs.Lines.{line_of, row_line, row_lines, reading_lines};
 
+use arrayvec::ArrayVec;
 use label::{ROW, Reading, Writing};
 use std::io;
 use std::io::{Read, Write};
@@ -15,14 +16,22 @@ use std::io::{Read, Write};
 // The number that stands before what an accepted message has, and before the count of bytes written.
 const ACCEPTED: u8 = 0;
 
+// Room for a line of a row's numbers, the longest: each takes at most 20 digits and the byte behind it.
+const LINE: usize = 21 * ROW;
+
+// A line is put together here and goes out in one write: standard output is not buffered, and `writeln!` writes piece by piece.
+type Line = ArrayVec<u8, LINE>;
+
 // Prints the line of what the writer answers: 0 and the byte count, or the reason's number.
 pub fn print_writing<W: Write>(out: &mut W, writing: Writing) -> io::Result<()>
     ensures { OnOk result (Appends (W.contents out.old) (W.contents out.new) (line_of (write_answer_of writing))) }
 {
+    let mut line = Line::new();
     match writing {
-        Ok(count) => writeln!(out, "{ACCEPTED} {count}"),
-        Err(reason) => writeln!(out, "{}", numbers::write_number_of(reason)),
+        Ok(count) => writeln!(line, "{ACCEPTED} {count}")?,
+        Err(reason) => writeln!(line, "{}", numbers::write_number_of(reason))?,
     }
+    out.write_all(&line)
 }
 
 // Prints a reading whole: its answer, and of an accepted message every row.
@@ -40,13 +49,15 @@ pub fn print_reading<W: Write>(out: &mut W, reading: Reading, table: &[u32]) -> 
 pub fn print_answer<W: Write>(out: &mut W, reading: Reading) -> io::Result<()>
     ensures { OnOk result (Appends (W.contents out.old) (W.contents out.new) (line_of (answer_of reading))) }
 {
+    let mut line = Line::new();
     match reading {
-        Ok(counts) => writeln!(out, "{ACCEPTED} {} {}", counts.envelopes, counts.rows),
+        Ok(counts) => writeln!(line, "{ACCEPTED} {} {}", counts.envelopes, counts.rows)?,
         Err(refusal) => {
             let number = numbers::number_of(refusal.reason);
-            writeln!(out, "{number} {}", refusal.place)
+            writeln!(line, "{number} {}", refusal.place)?
         }
     }
+    out.write_all(&line)
 }
 
 // Prints the table's first rows, a line each: by their numbers, as `print_row` is public and takes one.
@@ -66,7 +77,9 @@ pub fn print_row<W: Write>(out: &mut W, table: &[u32], row: usize) -> io::Result
     if row < table.len() / ROW {
         let at = row * ROW;
         if let [kind, format, start, length, ordinal] = &table[at..at + ROW] {
-            writeln!(out, "{kind} {format} {start} {length} {ordinal}")?;
+            let mut line = Line::new();
+            writeln!(line, "{kind} {format} {start} {length} {ordinal}")?;
+            out.write_all(&line)?;
         }
     }
     Ok(())
