@@ -22,13 +22,11 @@ fn with_digit(n: usize, digit: u32) -> usize {
     n.saturating_mul(10).saturating_add(digit as usize)
 }
 
-// The numbers of rows, as far as a table has room.
-pub(crate) fn rows(text: &[u8]) -> Table {
-    let mut table = Table::new();
+// Puts the numbers of rows into a table, as far as it has room. It is lent, as a message is (notation.rt).
+pub(crate) fn put_rows(text: &[u8], table: &mut Table) {
     for row in text.split(|b| *b == b';') {
-        put_row(row, &mut table);
+        put_row(row, table);
     }
-    table
 }
 
 // Puts one row into a table, as many times as its text says.
@@ -39,8 +37,9 @@ fn put_row(text: &[u8], table: &mut Table) {
     }
 }
 
+// A row with a number in it fills the table within so many times as there is room, and one without puts none however often.
 fn put_times(times: usize, row: &[u8], table: &mut Table) {
-    for _ in 0..times {
+    for _ in 0..times.min(ROOM) {
         put_numbers(row, table);
     }
 }

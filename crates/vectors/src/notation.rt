@@ -17,15 +17,14 @@ struct Run {
     byte: u8,
 }
 
-// The message that a text writes, as far as there is room. Braces that nothing closes write nothing, nor does what stands behind them.
-pub(crate) fn expand(text: &[u8]) -> Message {
-    let mut message = Message::new();
+// Writes the message that a text stands for behind what is there, as far as there is room. Braces that nothing closes write nothing, nor
+// does what stands behind them. The message is lent, as all of its room would be copied if it were handed back.
+pub(crate) fn expand(text: &[u8], message: &mut Message) {
     let mut rest = text;
     while let Some((run, behind)) = first_run(rest) {
-        put_run(run, &mut message);
+        put_run(run, message);
         rest = behind;
     }
-    message
 }
 
 // What a text's front writes, and what stands behind it: outside of braces a byte itself, else what stands in them.

@@ -1,4 +1,5 @@
 // The vectors of the reader: a message's reading, and the part that a row names.
+use crate::notation::Message;
 use crate::{decimals, notation, shown, split};
 use label::{Edition, Reading, TABLE};
 use std::io;
@@ -9,7 +10,8 @@ const MANY: usize = 100;
 
 // Prints the reading of a message.
 pub(crate) fn run_message<W: Write>(out: &mut W, edition: Edition, text: &[u8]) -> io::Result<()> {
-    let message = notation::expand(text);
+    let mut message = Message::new();
+    notation::expand(text, &mut message);
     let mut table = [0u32; TABLE];
     let reading = reader::read(edition, &message, &mut table);
     print(out, reading, &table)
@@ -34,7 +36,8 @@ fn print<W: Write>(out: &mut W, reading: Reading, table: &[u32]) -> io::Result<(
 // Prints the part of a message that a row names.
 pub(crate) fn run_part<W: Write>(out: &mut W, edition: Edition, text: &[u8]) -> io::Result<()> {
     let (row, text) = split::word(text);
-    let message = notation::expand(text);
+    let mut message = Message::new();
+    notation::expand(text, &mut message);
     let part = reader::part(edition, &message, decimals::number(row));
     shown::print_part(out, part)
 }

@@ -1,5 +1,6 @@
 // The vectors of the writer.
-use crate::notation::ROOM;
+use crate::decimals::Table;
+use crate::notation::{Message, ROOM};
 use crate::{decimals, notation, shown, split};
 use label::Edition;
 use std::io;
@@ -9,9 +10,11 @@ use std::io::Write;
 pub(crate) fn run_rows<W: Write>(out: &mut W, edition: Edition, text: &[u8]) -> io::Result<()> {
     let (length, more) = split::word(text);
     let (rows, data) = split::word(more);
-    let rows = decimals::rows(rows);
-    let held = notation::expand(data);
-    write(out, edition, &held, &rows, decimals::number(length))
+    let mut table = Table::new();
+    decimals::put_rows(rows, &mut table);
+    let mut held = Message::new();
+    notation::expand(data, &mut held);
+    write(out, edition, &held, &table, decimals::number(length))
 }
 
 // The output holds dots before, so that it shows which bytes were written. The parameters are the writer's, and where to print.
