@@ -4,6 +4,7 @@ use Rattle.std.specs.Option.{IfSome, option_map}
 use Rattle.std.specs.declared.option.Option.{Option}
 use Rattle.label.specs.Bytes.{Bytes, every}
 use lib.Seq.{drop-drop}
+use Rattle.std.proofs.lemmas.Grind.{common_steps}
 use Rattle.leaves.specs.Seek.{seek}
 use Rattle.leaves.proofs.Turns.{seek_blocks}
 use Rattle.leaves.proofs.find_far.Goals as goal
@@ -17,6 +18,10 @@ passed c (Some x) None y block same there tells is h k = absurd cc
 passed c (Some x) (Some z) y block same there tells is h k =
     let one : x ≡ z = cc in
     subst (λ l. every (λ b. not (eqb b c)) l ≡ true) (ap (λ v. v.now) one ∙ is z k) (tells x h)
+
+-- what is found from an index on that is the one behind the blocks, however it is come by
+found_at : (c r at from n : ℕ) (s : Bytes) → r ≡ at + seek c (drop at s) → at ≡ from + 64 * n → seek c (drop from s) ≡ n * 64 + seek c (drop (from + 64 * n) s) → r ≡ from + seek c (drop from s)
+found_at c r at from n s found is far = omega (arith, found ∙ ap (λ k. k + seek c (drop k s)) is, far)
 
 pub returns : goal.returns
 returns c =
@@ -41,4 +46,6 @@ returns c =
     let far = seek_blocks c.args.c 64 rest n (omega (arith, room, ap length whole, kept.2.0, counted.3)) lack in
     let behind : drop (n * 64) rest ≡ drop (c.args.from + 64 * n) c.args.s.now
     = ap (drop (n * 64)) c.from_on.ensures ∙ drop-drop (n * 64) c.args.from c.args.s.now ∙ ap (λ k. drop k c.args.s.now) (omega arith) in
-    omega (arith, c.find.ensures, far, ap (seek c.args.c) behind, ap (seek c.args.c) c.from_on.ensures)
+    let passed_over : seek c.args.c (drop c.args.from c.args.s.now) ≡ n * 64 + seek c.args.c (drop (c.args.from + 64 * n) c.args.s.now)
+    = omega (arith, far, ap (seek c.args.c) behind, ap (seek c.args.c) c.from_on.ensures) in
+    found_at c.args.c _ _ c.args.from n c.args.s.now c.find.ensures (grind (arith, common_steps)) passed_over
