@@ -23,7 +23,8 @@ fn tally_few(s: &[u8], c: u8) -> u8
     n
 }
 
-// How many bytes are c, 64 bytes at a time: by the library's filter and count each byte is a branch, and a body takes five times as long.
+// How many bytes are c, 64 bytes at a time: by the library's filter and count each byte is a branch, and a label that is judged by the exact
+// reader takes up to 3.9 times the instructions (docs/LOOK-BACK.md).
 pub fn tally(s: &[u8], c: u8) -> usize
     ensures { result ≡ tally_of c s.now }
 {
