@@ -1,9 +1,13 @@
--- The tally of the bytes up to and with the next.
-use Rattle.std.proofs.Common.{ℕ, zero, suc, ◌+◌, ◌<◌, ◌≤◌, ◌≡◌, [], ◌∷◌, length, take, cond, eqb, true, false, Bool, arith, refl}
+-- The tally of bytes cut in two, and of the bytes up to and with the next.
+use Rattle.std.proofs.Common.{ℕ, zero, suc, ◌+◌, ◌<◌, ◌≤◌, ◌≡◌, ◌∙◌, [], ◌∷◌, length, take, drop, take-append-drop, cond, eqb, true, false, Bool, arith, refl, ap, sym}
 use lib.ListN.{get_or}
 use mir.Val.{bool_byte}
 use Rattle.label.specs.Bytes.{Bytes}
 use Rattle.leaves.specs.Seek.{tally_of}
+use Rattle.leaves.proofs.Turns.{tally_behind}
+
+pub tally_cut : (c n : ℕ) (xs : Bytes) → tally_of c xs ≡ tally_of c (take n xs) + tally_of c (drop n xs)
+tally_cut c n xs = ap (tally_of c) (sym (take-append-drop n xs)) ∙ tally_behind c (take n xs) (drop n xs)
 
 pub tally_next : (c : ℕ) (xs : Bytes) (i : ℕ) → i < length xs → tally_of c (take (suc i) xs) ≡ tally_of c (take i xs) + bool_byte (eqb (get_or xs i 0) c)
 tally_next c [] i none = absurd (omega arith)

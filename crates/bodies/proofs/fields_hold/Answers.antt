@@ -17,5 +17,4 @@ kept v body n most all ends counted limit held ended =
 
 pub returns : goal.returns
 returns c =
-    let most = c.most_fields-most.ensures in
     kept c.args.version c.args.body.now c.tally-gs.result _ c.pieces_hold-all.result c.last_empty-ends.result c.tally-gs.ensures (grind (arith, nat_tests)) c.pieces_hold-all.ensures c.last_empty-ends.ensures
